@@ -1,0 +1,22 @@
+-- Every lawful record kind keeps the promise.
+use mathlib.Core.Path.{_≡_, sym, subst, fun-ext}
+use mathlib.Core.List.{List}
+use Prim.Native.Nat.{ℕ}
+use Rattle.recording.specs.declared.Cell.{Cell}
+use Rattle.records.specs.Records.{Meaning, Laws}
+use Rattle.index.specs.Listing.{Chooses}
+use Rattle.index.specs.Promise.{Promise}
+use Rattle.index.proofs.Boundaries.{resynchronised}
+use Rattle.index.proofs.Nearby.{both-clear}
+use Rattle.index.proofs.Chosen.{listing-chooses, listing-chosen}
+use Rattle.index.proofs.Table.{listing-is}
+use Rattle.index.proofs.Walks.{used}
+
+pub promised : {M : ℕ} {m : Meaning} → Laws M m → (cs : List Cell) → Promise M m cs
+promised {M} {m} laws cs = record {
+  used = used laws cs;
+  same-rows = λ ds b c k l same. resynchronised laws cs ds b c k l same;
+  both-clear = λ ds b c h i same near. both-clear laws cs ds b c h i same near;
+  chosen = λ member. (listing-chosen laws cs member, λ e. subst (Chooses m cs) (sym (fun-ext e)) (listing-chooses laws cs));
+  only = λ rows. listing-is laws cs rows;
+}

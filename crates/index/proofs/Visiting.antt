@@ -1,0 +1,105 @@
+-- A run of visits, one after the other.
+use mathlib.Core.Path.{_≡_, refl, sym, ap, subst, _∙_}
+use mathlib.Core.List.{List, [], _∷_, _++_, append-nil, append-assoc}
+use Prim.Native.Nat.{ℕ, _+_, _<_, _≤_}
+use lib.ListN.{length, take, drop, getD, set, length-set}
+use lib.Seq.{drop-set-lt}
+use native.Mathlib.Omega.{arith}
+use Rattle.std.proofs.shelf.Lists.{drop-more, drop-all, take-all, take-more-set}
+use Rattle.std.specs.declared.option.Option.the-variants.{Some}
+use Rattle.recording.specs.declared.Cell.{Cell}
+use Rattle.records.specs.Records.{Meaning, Laws}
+use Rattle.index.specs.declared.Index.{Index}
+use Rattle.index.specs.declared.row.Row.{Row}
+use Rattle.index.specs.declared.answer.Answer.{Answer}
+use Rattle.index.specs.declared.answer.Visit.{Visit}
+use Rattle.index.specs.Indexes.{Stores, Kinds, cellsOf, meaningOf, Progress, progress}
+use Rattle.index.specs.Visits.{called, visited, answered, unused}
+use Rattle.index.specs.Promise.{Used}
+use Rattle.index.specs.Runs.{Made, Ran, Opened, Serves}
+use Rattle.index.proofs.Walks.{used}
+
+-- x has come to y with i of the visits made: what is noted so far is followed by what the others will answer
+pub record Sofar {S K : Type 0} (s : Stores S) (k : Kinds K) (vs : List Visit) (x : Index S K) (table : List Row) (i : ℕ) (noted : List Visit) (y : Index S K) (after : List Row) : Type 0 where
+  pub store : y .store ≡ x .store
+  pub kind : y .kind ≡ x .kind
+  pub size : length noted ≡ length vs
+  pub others : drop i noted ≡ drop i vs
+  pub answers : take i noted ++ answered (meaningOf k x) (cellsOf s x) (drop i vs) (progress y after) ≡ answered (meaningOf k x) (cellsOf s x) vs (progress x table)
+  pub left : visited (meaningOf k x) (cellsOf s x) (drop i vs) (progress y after) ≡ visited (meaningOf k x) (cellsOf s x) vs (progress x table)
+
+module _ {S K : Type 0} {s : Stores S} {k : Kinds K} {vs : List Visit} {x : Index S K} {table : List Row} where
+  pub start-of : Sofar s k vs x table 0 vs x table
+  start-of = record { store = refl; kind = refl; size = refl; others = refl; answers = refl; left = refl }
+
+  module _ {i : ℕ} {noted : List Visit} {y : Index S K} {after : List Row} (sofar : Sofar s k vs x table i noted y after) where
+    module _ {r : Answer} {z : Index S K} {last : List Row} (d : Visit) (l : i < length vs) (one : Made s k (getD noted i d .call) y after r z last) where
+      abbrev m : Meaning
+      m = meaningOf k x
+
+      abbrev cs : List Cell
+      cs = cellsOf s x
+
+      abbrev made : Visit
+      made = record { call = getD noted i d .call; answer = Some r }
+
+      in-noted : i < length noted
+      in-noted = omega (arith, sofar .size)
+
+      next : drop i vs ≡ getD vs i d ∷ drop (i + 1) vs
+      next = drop-more vs i d l
+
+      both : getD noted i d ∷ drop (i + 1) noted ≡ getD vs i d ∷ drop (i + 1) vs
+      both = sym (drop-more noted i d in-noted) ∙ sofar .others ∙ next
+
+      call : getD noted i d .call ≡ getD vs i d .call
+      call = ap (λ (u : List Visit). getD u 0 d .call) both
+
+      same : called (k .stands (y .kind)) (s .cells (y .store)) (getD noted i d .call) (progress y after) ≡ called m cs (getD vs i d .call) (progress y after)
+      same = λ j. called (k .stands (sofar .kind j)) (s .cells (sofar .store j)) (call j) (progress y after)
+
+      answer : r ≡ called m cs (getD vs i d .call) (progress y after) .0
+      answer = one .answer ∙ ap (λ u. u .0) same
+
+      left : progress z last ≡ called m cs (getD vs i d .call) (progress y after) .1
+      left = one .left ∙ ap (λ u. u .1) same
+
+      pub one-more : Sofar s k vs x table (i + 1) (set noted i made) z last
+      one-more = record {
+        store = one .store ∙ sofar .store;
+        kind = one .kind ∙ sofar .kind;
+        size = length-set noted i made ∙ sofar .size;
+        others = drop-set-lt (i + 1) noted i made (omega arith) ∙ ap (drop 1) both;
+        answers =
+            ap (λ u. u ++ answered m cs (drop (i + 1) vs) (progress z last)) (take-more-set noted i made in-noted)
+            ∙ append-assoc (take i noted) (made ∷ []) (answered m cs (drop (i + 1) vs) (progress z last))
+            ∙ ap (λ u. take i noted ++ u) (λ j. record { call = call j; answer = Some (answer j) } ∷ answered m cs (drop (i + 1) vs) (left j))
+            ∙ sym (ap (λ u. take i noted ++ answered m cs u (progress y after)) next) ∙ sofar .answers;
+        left = ap (visited m cs (drop (i + 1) vs)) left ∙ sym (ap (λ u. visited m cs u (progress y after)) next) ∙ sofar .left;
+      }
+
+    pub all-made : length vs ≤ i → Ran s k vs x table noted y after
+    all-made l =
+        let none = drop-all i vs l in
+        let all : take i noted ≡ noted = take-all i noted (omega (arith, sofar .size)) in
+        record {
+          store = sofar .store;
+          kind = sofar .kind;
+          answers = sym (append-nil noted) ∙ ap (λ u. u ++ []) (sym all) ∙ sym (ap (λ u. take i noted ++ answered (meaningOf k x) (cellsOf s x) u (progress y after)) none) ∙ sofar .answers;
+          left = sym (ap (λ u. visited (meaningOf k x) (cellsOf s x) u (progress y after)) none) ∙ sofar .left;
+        }
+
+visits-join : (m : Meaning) (cs : List Cell) (vs ws : List Visit) (s : Progress) → visited m cs (vs ++ ws) s ≡ visited m cs ws (visited m cs vs s)
+visits-join m cs [] ws s = refl
+visits-join m cs (v ∷ vs) ws s = visits-join m cs vs ws (called m cs (v .call) s .1)
+
+pub serves : {S K : Type 0} (s : Stores S) (k : Kinds K) → ((a : K) → Laws (k .longest) (k .stands a)) → {vs : List Visit} {x : Index S K} {table : List Row} {noted : List Visit} {y : Index S K} {after : List Row}
+    → Ran s k vs x table noted y after → (start : List Row) → Opened s k start x table → Serves s k start y after
+serves s k laws {vs} {x} {table} {noted} {y} {after} r start v = record { opened = (ws, is); used = subst (Used (meaningOf k y) (cellsOf s y) start) (sym is) (used (laws (y .kind)) (cellsOf s y) start ws) }
+  where
+    ws : List Visit
+    ws = v .0 ++ vs
+
+    is : progress y after ≡ visited (meaningOf k y) (cellsOf s y) ws (unused start)
+    is = r .left ∙ ap (visited (meaningOf k x) (cellsOf s x) vs) (v .1) ∙ sym (visits-join (meaningOf k x) (cellsOf s x) (v .0) vs (unused start))
+        ∙ (λ j. visited (k .stands (sym (r .kind) j)) (s .cells (sym (r .store) j)) ws (unused start))

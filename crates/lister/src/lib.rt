@@ -1,0 +1,127 @@
+// Lists a short recording, and writes its rows as lines of text.
+ghost use mathlib.Core.Path.{_≡_};
+ghost use Prim.Native.Nat.{_≤_};
+ghost use lib.ListN.{length};
+ghost use Rattle.std.specs.Of.String.{string-bytes};
+ghost use Rattle.std.specs.Of.Vec.{vec-len};
+ghost use Rattle.std.specs.Vec.{made};
+ghost use Rattle.lister.specs.declared.ListError.the-variants.{Memory};
+ghost use Rattle.lister.specs.Listed.{Ends, Lists};
+ghost use Rattle.recording.specs.Cells.{plain};
+ghost use Rattle.index.specs.Indexes.{at};
+ghost use Rattle.lister.specs.Lines.{rowText, endText};
+use index::Index;
+use index::answer::Call;
+use index::answer::Visit;
+use index::row::Row;
+use recording::plain::Plain;
+use recording::plain::PlainStore;
+use records::kind::RecordKind;
+use std::alloc::AllocError;
+use std::alloc::Global;
+
+pub mod print;
+
+// The most bytes that are listed.
+pub const MOST: usize = 32_768;
+
+// The counts of an index at the end of its recording.
+#[derive(Clone, Copy)]
+pub struct Counts {
+    pub rows: u32,
+    pub place: u32,
+    pub skipped: u32,
+}
+
+// A recording read to its end: the table with its rows in front.
+#[derive(Drop)]
+pub struct Listed {
+    pub table: Vec<Row>,
+    pub counts: Counts,
+}
+
+#[derive(Drop)]
+pub enum ListError {
+    // There are more bytes than are listed.
+    TooLong,
+    Memory,
+}
+
+impl From<AllocError> for ListError as ListErrorFrom {
+    ghost converts = { λ _ y. y ≡ Memory };
+
+    fn from(_e: AllocError) -> ListError {
+        ListError::Memory
+    }
+}
+
+fn blank_table(heap: Global, rows: usize) -> Result<Vec<Row>, AllocError>
+    ensures { λ r. ⌜ made r (λ v. vec-len v ≡ rows) ⌝ }
+{
+    let blank = Row {
+        place: 0,
+        length: 0,
+        tag: 0,
+        source_type: 0,
+        source_id: 0,
+        time: 0,
+    };
+    vec![in heap; blank; rows]
+}
+
+// Reads a recording to its end: a table with a row for each byte is never full, and one scan suffices.
+fn read_whole<K: RecordKind + Drop>(kind: K, bytes: &[u8], table: &mut [Row]) -> Counts
+    requires { ⌜ length (now bytes) ≤ 32768 ⌝ ∗ ⌜ length (now table) ≡ length (now bytes) ⌝ }
+    ensures { λ r. ⌜ Ends (K·RecordKind .stands kind) (plain (now (bytes .entry))) (at (r .place) (r .skipped) (r .rows) (now (table .exit))) ⌝ }
+{
+    let mut index = Index::open(Plain::new(bytes), kind);
+    let mut visits = [Visit::new(Call::Scan(65_536))];
+    index.run(table, &mut visits);
+    Counts {
+        rows: index.rows(),
+        place: index.place(),
+        skipped: index.skipped(),
+    }
+}
+
+// Every row of the recording that the bytes are.
+pub fn list<K: RecordKind + Drop>(heap: Global, kind: K, bytes: &[u8]) -> Result<Listed, ListError>
+    ensures { λ r. ⌜ Lists (K·RecordKind .stands kind) (now (bytes .entry)) r ⌝ }
+{
+    if bytes.len() > MOST {
+        return Err(ListError::TooLong);
+    }
+    let mut table = blank_table(heap, bytes.len())?;
+    let counts = read_whole(kind, bytes, &mut table);
+    Ok(Listed { table, counts })
+}
+
+// A row's six members.
+pub fn row_line(heap: Global, row: Row) -> Result<String, AllocError>
+    ensures { λ r. ⌜ made r (λ s. string-bytes s ≡ rowText row) ⌝ }
+{
+    let Row {
+        place,
+        length,
+        tag,
+        source_type,
+        source_id,
+        time,
+    } = row;
+    format!(
+        heap,
+        "{place} {length} {tag} {source_type} {source_id} {time}"
+    )
+}
+
+// The line that closes a listing.
+pub fn end_line(heap: Global, counts: Counts) -> Result<String, AllocError>
+    ensures { λ r. ⌜ made r (λ s. string-bytes s ≡ endText counts) ⌝ }
+{
+    let Counts {
+        rows,
+        place,
+        skipped,
+    } = counts;
+    format!(heap, "end {place} skipped {skipped} rows {rows}")
+}
