@@ -1,0 +1,41 @@
+-- The examples hold: the definitions compute to what each says.
+use mathlib.Core.Path.{refl}
+use Rattle.std.specs.shelf.Lists.{All}
+use Rattle.index.specs.Listing.{turns}
+use Rattle.index.specs.Scanning.{scanned}
+use Rattle.index.specs.Clearing.{first-of}
+use Rattle.examples.specs.Examples.{Holds, examples}
+
+pub all-hold : All Holds examples
+unfolding turns scanned first-of
+all-hold = (
+  record { listed = refl; scanned = refl; answers = (refl, (refl, (refl, tt))) },
+  (
+    record { listed = refl; scanned = refl; answers = tt },
+    (
+      record { listed = refl; scanned = refl; answers = tt },
+      (
+        record { listed = refl; scanned = refl; answers = tt },
+        (
+          record { listed = refl; scanned = refl; answers = tt },
+          (
+            record { listed = refl; scanned = refl; answers = (refl, (refl, (refl, tt))) },
+            (
+              record { listed = refl; scanned = refl; answers = (refl, (refl, tt)) },
+              (
+                record { listed = refl; scanned = refl; answers = tt },
+                (
+                  record { listed = refl; scanned = refl; answers = tt },
+                  (
+                    record { listed = refl; scanned = refl; answers = (refl, tt) },
+                    tt,
+                  ),
+                ),
+              ),
+            ),
+          ),
+        ),
+      ),
+    ),
+  ),
+)
