@@ -1,3 +1,4 @@
 pub mod Walks
 pub mod Lengths
 pub mod Sets
+pub mod Rounds

@@ -65,9 +65,13 @@ layoutOf t = lookup t catalogue
 abbrev pub laid : Layout → List Letter × ℕ
 laid l = (l .letters .now, l .length)
 
+-- the layout of a type, for a body of so many bytes
+abbrev pub layoutFor : ℕ → ℕ → Result (List Letter × ℕ) LayoutFault
+layoutFor t n =
+    andThen (okOr (layoutOf t) fault.NoLayout) (λ l.
+    andThen (check (eqb n (l .1)) fault.Length) (λ _.
+    Ok l))
+
 -- the layout of a sound fixed body
 abbrev pub fixedBody : ℕ → List ℕ → Result (List Letter × ℕ) LayoutFault
-fixedBody t bs =
-    andThen (okOr (layoutOf t) fault.NoLayout) (λ l.
-    andThen (check (eqb (length bs) (l .1)) fault.Length) (λ _.
-    Ok l))
+fixedBody t bs = layoutFor t (length bs)

@@ -7,7 +7,8 @@ ghost use mir.Val.{ofZ};
 ghost use mir.Syntax.{w16};
 ghost use Rattle.layouts.specs.Fields.{means, aNumber};
 ghost use Rattle.layouts.specs.Letters.{size};
-ghost use Rattle.layouts.specs.Set.{bytesOf, numberBytes, signedBytes, runBytes, bytesFor, setAt, putOf, setOf};
+ghost use Rattle.layouts.specs.Set.{bytesOf, numberBytes, signedBytes, runBytes, bytesFor, setAt, putOf, setOf, FieldSet};
+ghost use Rattle.std.specs.Vec.{made};
 use crate::fault::FieldFault;
 use crate::fields::Field;
 use crate::fields::field_place;
@@ -99,7 +100,8 @@ pub fn set_field(
     n: usize,
     value: Field<'_>,
 ) -> Result<(), FieldFault>
-    ensures { λ r. ⌜ (r, now (body .exit)) ≡ setOf «data_type» (now (body .entry)) n (means (value .entry)) ⌝ }
+    ensures value { λ r. ⌜ (r, now (body .exit)) ≡ setOf «data_type» (now (body .entry)) n (means (value .entry)) ⌝ }
+    ensures law { λ r. ⌜ made r (λ _. FieldSet «data_type» n (means (value .entry)) (now (body .entry)) (now (body .exit))) ⌝ }
 {
     let (at, letter) = field_place(data_type, body, n)?;
     put_value(body, at, letter, value)
