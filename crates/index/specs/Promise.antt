@@ -11,7 +11,7 @@ use Rattle.std.specs.declared.option.Option.the-variants.{Some}
 use Rattle.std.specs.declared.result.Result.the-variants.{Ok, Err}
 use Rattle.recording.specs.declared.Cell.{Cell}
 use Rattle.recording.specs.declared.Cell.the-variants.{Lost}
-use Rattle.recording.specs.Refusals.{nowhere}
+use Rattle.refusals.specs.Notices.{nowhere}
 use Rattle.records.specs.declared.kind.Record.{Record}
 use Rattle.records.specs.Records.{Meaning}
 use Rattle.index.specs.declared.row.Row.{Row}

@@ -1,6 +1,6 @@
 -- What the refusals of an index tell.
-use Rattle.recording.specs.declared.refusal.Notice.{Notice}
-use Rattle.recording.specs.Refusals.{nowhere}
+use Rattle.refusals.specs.declared.Notice.{Notice}
+use Rattle.refusals.specs.Notices.{nowhere}
 use Rattle.index.specs.declared.answer.ScanRefusal.{ScanRefusal}
 use Rattle.index.specs.declared.answer.ScanRefusal.the-variants as scan
 use Rattle.index.specs.declared.answer.ClearRefusal.{ClearRefusal}

@@ -1,7 +1,7 @@
 // What is asked of an index, and what it answers.
 ghost use mathlib.Core.Path.{_≡_};
 ghost use Rattle.index.specs.Refusals.{scan-refusal, clear-refusal};
-use recording::refusal::Refusal;
+use refusals::Refusal;
 
 // Why a scan stopped: at the end, all its tests made, or a record found and no row free.
 #[derive(Clone, Copy, Debug, PartialEq, Eq)]

@@ -1,0 +1,4 @@
+pub mod Walks
+pub mod Lengths
+pub mod Sets
+pub mod Rounds

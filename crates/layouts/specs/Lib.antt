@@ -1,0 +1,10 @@
+pub mod Numbers
+pub mod Faults
+pub mod Checks
+pub mod Letters
+pub mod Catalogue
+pub mod Members
+pub mod Settings
+pub mod Examples
+pub mod Fields
+pub mod Set

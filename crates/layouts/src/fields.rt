@@ -1,0 +1,74 @@
+// Fields of fixed bodies and of settings.
+ghost use mathlib.Core.Path.{_≡_};
+ghost use Prim.Native.Nat.{_+_, _≤_};
+ghost use lib.ListN.{length};
+ghost use Rattle.std.specs.Results.{mapped};
+ghost use Rattle.std.specs.Vec.{made};
+ghost use Rattle.layouts.specs.Fields.{means, valueAt, placeOf, valueOf};
+ghost use Rattle.layouts.specs.Letters.{size};
+use crate::catalogue::fixed_layout;
+use crate::fault::FieldFault;
+use crate::fault::FieldFaultFrom;
+use crate::letters::Letter;
+use crate::letters::field_of;
+use crate::members::settings_field;
+use crate::numbers::byte;
+use crate::numbers::double;
+use crate::numbers::quad;
+use crate::numbers::signed;
+use crate::numbers::word;
+use crate::settings::read_settings;
+
+// What a field says; a run is part of the body.
+#[derive(Clone, Copy)]
+pub enum Field<'a> {
+    Number(u64),
+    Signed(i64),
+    Run(&'a [u8]),
+}
+
+fn field_at(body: &[u8], at: usize, letter: Letter) -> Field<'_>
+    requires { ⌜ at + size letter ≤ length (now body) ⌝ }
+    ensures { λ r. ⌜ means r ≡ valueAt (now (body .entry)) (at, letter) ⌝ }
+{
+    match letter {
+        Letter::D => Field::Number(quad(body, at)),
+        Letter::F | Letter::L => Field::Number(u64::from(double(body, at))),
+        Letter::W => Field::Number(u64::from(word(body, at))),
+        Letter::S => Field::Signed(i64::from(signed(body, at))),
+        Letter::B => Field::Number(u64::from(byte(body, at))),
+        Letter::R(n) => Field::Run(&body[at..at + usize::from(n)]),
+    }
+}
+
+fn settings_place(body: &[u8], n: usize) -> Result<(usize, Letter), FieldFault>
+    ensures value { λ r. ⌜ r ≡ placeOf 15 (now (body .entry)) n ⌝ }
+    ensures within { λ r. ⌜ made r (λ p. p .0 + size (p .1) ≤ length (now (body .entry))) ⌝ }
+{
+    let settings = read_settings(body)?;
+    settings_field(settings.version, settings.altimeter, n).ok_or(FieldFault::NoField)
+}
+
+// The place and the letter of a field; only a sound body has fields.
+pub(crate) fn field_place(
+    data_type: u16,
+    body: &[u8],
+    n: usize,
+) -> Result<(usize, Letter), FieldFault>
+    ensures value { λ r. ⌜ r ≡ placeOf «data_type» (now (body .entry)) n ⌝ }
+    ensures within { λ r. ⌜ made r (λ p. p .0 + size (p .1) ≤ length (now (body .entry))) ⌝ }
+{
+    if data_type == 15 {
+        return settings_place(body, n);
+    }
+    let layout = fixed_layout(data_type, body)?;
+    field_of(layout.letters, n).ok_or(FieldFault::NoField)
+}
+
+// What field n of a body says.
+pub fn read_field(data_type: u16, body: &[u8], n: usize) -> Result<Field<'_>, FieldFault>
+    ensures { λ r. ⌜ mapped means (λ e. e) r ≡ valueOf «data_type» (now (body .entry)) n ⌝ }
+{
+    let (at, letter) = field_place(data_type, body, n)?;
+    Ok(field_at(body, at, letter))
+}
