@@ -1,9 +1,9 @@
 -- The examples hold: the definitions compute to what each says.
 use mathlib.Core.Path.{refl}
 use Rattle.std.specs.shelf.Lists.{All}
-use Rattle.index.specs.Listing.{turns}
-use Rattle.index.specs.Scanning.{scanned}
-use Rattle.index.specs.Clearing.{first-of}
+use Rattle.listing.specs.Listing.{turns}
+use Rattle.listing.specs.Scanning.{scanned}
+use Rattle.listing.specs.Clearing.{first-of}
 use Rattle.examples.specs.Examples.{Holds, examples}
 
 pub all-hold : All Holds examples

@@ -13,15 +13,15 @@ use Rattle.records.specs.Records.{Meaning}
 use Rattle.records.specs.Grammars.{meaning}
 use Rattle.records.specs.Tuples.{tuple}
 use Rattle.records.specs.Sentences.{sentence}
-use Rattle.index.specs.declared.row.Row.{Row}
-use Rattle.index.specs.declared.answer.Call.the-variants.{Scan}
-use Rattle.index.specs.declared.answer.Cleared.{Cleared}
-use Rattle.index.specs.declared.answer.Cleared.the-variants.{Yes, Crossed}
-use Rattle.index.specs.Listing.{listing}
-use Rattle.index.specs.Indexes.{Progress, at}
-use Rattle.index.specs.Clearing.{clearing}
-use Rattle.index.specs.Visits.{visited, unused}
-use Rattle.index.specs.Runs.{unmade}
+use Rattle.indexfile.specs.declared.row.Row.{Row}
+use Rattle.listing.specs.declared.answer.Call.the-variants.{Scan}
+use Rattle.listing.specs.declared.answer.Cleared.{Cleared}
+use Rattle.listing.specs.declared.answer.Cleared.the-variants.{Yes, Crossed}
+use Rattle.listing.specs.Listing.{listing}
+use Rattle.listing.specs.Progress.{Progress, at}
+use Rattle.listing.specs.Clearing.{clearing}
+use Rattle.listing.specs.Visits.{visited, unused}
+use Rattle.listing.specs.Visits.{unmade}
 
 pub record Example : Type 0 where
   pub meaning : Meaning

@@ -1,14 +1,2 @@
-pub mod Lists
-pub mod SameTest
-pub mod Inside
-pub mod Boundaries
-pub mod Nearby
-pub mod Chosen
-pub mod Table
-pub mod Along
 pub mod Scans
-pub mod Clears
-pub mod Clearness
-pub mod Walks
-pub mod Promised
 pub mod Visiting

@@ -1,38 +1,17 @@
--- The turns of a scan.
-use mathlib.Core.Path.{_≡_, refl, sym, ap, subst, _∙_}
+-- A run of turns from one state of an index to another.
+use mathlib.Core.Path.{_≡_, refl, sym, ap, _∙_}
 use mathlib.Core.Bool.{Bool, true, false, cond}
 use mathlib.Core.List.{List}
-use Prim.Native.Nat.{ℕ, zero, suc, _+_, _-_, _≤_, _<_}
+use Prim.Native.Nat.{ℕ, _+_, _-_, _≤_, _<_}
 use native.Mathlib.Omega.{arith}
-use borrow.Author.Tests.{le-leb, lt-leb}
-use lib.Dec.{leb}
 use lib.ListN.{length}
-use Rattle.recording.specs.declared.Cell.{Cell}
+use Rattle.indexfile.specs.declared.row.Row.{Row}
+use Rattle.listing.specs.declared.answer.Stop.the-variants.{Ended, Spent, Full}
+use Rattle.listing.specs.Scanning.{turned, outcome, scanned}
+use Rattle.listing.proofs.Scans.{ended, spent, turn-more}
 use Rattle.index.specs.declared.Index.{Index}
-use Rattle.index.specs.declared.row.Row.{Row}
-use Rattle.index.specs.declared.answer.Stop.the-variants.{Ended, Spent, Full}
-use Rattle.index.specs.Indexes.{Stores, Kinds, cellsOf, meaningOf, Progress, progress}
-use Rattle.records.specs.Records.{Meaning}
-use Rattle.index.specs.Scanning.{turned, Turn, outcome, scanned, Turns}
-
-module _ (m : Meaning) (cs : List Cell) where
-  pub ended : (n k : ℕ) (s : Progress) → length cs ≤ s .place → scanned m cs n k s ≡ outcome Ended k s
-  unfolding scanned
-  ended zero k s h = rw (le-leb (length cs) (s .place) h)
-  ended (suc n) k s h = rw (le-leb (length cs) (s .place) h)
-
-  pub spent : (n k : ℕ) (s : Progress) → n ≡ 0 → s .place < length cs → scanned m cs n k s ≡ outcome Spent k s
-  unfolding scanned
-  spent zero k s z h = rw (lt-leb (length cs) (s .place) h)
-  spent (suc n) k s z h = absurd (omega arith)
-
-  -- one turn more, with k of n tests made
-  pub turn-more : (n k : ℕ) (s : Progress) → k < n → s .place < length cs → scanned m cs (n - k) k s ≡ cond (turned (m cs (s .place)) s .0) (scanned m cs (n - (k + 1)) (k + 1) (turned (m cs (s .place)) s .1)) (outcome Full (k + 1) (turned (m cs (s .place)) s .1))
-  unfolding scanned
-  turn-more n k s lt h =
-      let more : n - k ≡ suc (n - (k + 1)) = omega arith in
-      let one : scanned m cs (suc (n - (k + 1))) k s ≡ cond (turned (m cs (s .place)) s .0) (scanned m cs (n - (k + 1)) (k + 1) (turned (m cs (s .place)) s .1)) (outcome Full (k + 1) (turned (m cs (s .place)) s .1)) = rw (lt-leb (length cs) (s .place) h) in
-      ap (λ j. scanned m cs j k s) more ∙ one
+use Rattle.index.specs.Indexes.{Stores, Kinds, cellsOf, meaningOf, progress}
+use Rattle.index.specs.Calls.{Turn, Turns}
 
 -- a run of turns from x that has come to y, with so many tests made
 pub record Sofar {S K : Type 0} (s : Stores S) (k : Kinds K) (budget : ℕ) (x : Index S K) (table : List Row) (tests : ℕ) (y : Index S K) (after : List Row) : Type 0 where

@@ -10,14 +10,15 @@ use Rattle.std.specs.declared.option.Option.the-variants.{Some}
 use Rattle.recording.specs.declared.Cell.{Cell}
 use Rattle.records.specs.Records.{Meaning, Laws}
 use Rattle.index.specs.declared.Index.{Index}
-use Rattle.index.specs.declared.row.Row.{Row}
-use Rattle.index.specs.declared.answer.Answer.{Answer}
-use Rattle.index.specs.declared.answer.Visit.{Visit}
-use Rattle.index.specs.Indexes.{Stores, Kinds, cellsOf, meaningOf, Progress, progress}
-use Rattle.index.specs.Visits.{called, visited, answered, unused}
-use Rattle.index.specs.Promise.{Used}
-use Rattle.index.specs.Runs.{Made, Ran, Opened, Serves}
-use Rattle.index.proofs.Walks.{used}
+use Rattle.indexfile.specs.declared.row.Row.{Row}
+use Rattle.listing.specs.declared.answer.Answer.{Answer}
+use Rattle.listing.specs.declared.answer.Visit.{Visit}
+use Rattle.listing.specs.Progress.{Progress}
+use Rattle.index.specs.Indexes.{Stores, Kinds, cellsOf, meaningOf, progress}
+use Rattle.listing.specs.Visits.{called, visited, answered, unused}
+use Rattle.listing.specs.Promise.{Used}
+use Rattle.index.specs.Calls.{Made, Ran, Opened, Serves}
+use Rattle.listing.proofs.Walks.{used}
 
 -- x has come to y with i of the visits made: what is noted so far is followed by what the others will answer
 pub record Sofar {S K : Type 0} (s : Stores S) (k : Kinds K) (vs : List Visit) (x : Index S K) (table : List Row) (i : ℕ) (noted : List Visit) (y : Index S K) (after : List Row) : Type 0 where

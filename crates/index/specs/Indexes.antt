@@ -1,15 +1,15 @@
 -- An index with its table: the recording that it is of, what its kind says there, and how far it has come.
 use mathlib.Core.List.{List}
 use Prim.Native.Nat.{ℕ}
-use lib.ListN.{take}
 use Rattle.std.specs.declared.option.Option.{Option}
 use Rattle.recording.specs.declared.Cell.{Cell}
 use Rattle.recording.specs.declared.Store.{Ghosts as StoreGhosts}
 use Rattle.records.specs.declared.kind.RecordKind.{Ghosts as KindGhosts}
 use Rattle.records.specs.declared.kind.Record.{Record}
 use Rattle.records.specs.Records.{Meaning}
+use Rattle.listing.specs.Progress.{Progress, at}
 use Rattle.index.specs.declared.Index.{Index}
-use Rattle.index.specs.declared.row.Row.{Row}
+use Rattle.indexfile.specs.declared.row.Row.{Row}
 
 abbrev pub Stores : Type 0 → Type 1
 Stores S = StoreGhosts S
@@ -27,18 +27,6 @@ meaningOf k x = k .stands (x .kind)
 abbrev pub standsAt : {S K : Type 0} → Stores S → Kinds K → Index S K → ℕ → Option Record
 standsAt s k x p = meaningOf k x (cellsOf s x) p
 
--- how far an index has come: the place, the cells skipped, the rows held, and the table at whose front they are
-pub record Progress : Type 0 where
-  pub place : ℕ
-  pub skipped : ℕ
-  pub rows : ℕ
-  pub table : List Row
-
-abbrev pub at : ℕ → ℕ → ℕ → List Row → Progress
-at p s r t = record { place = p; skipped = s; rows = r; table = t }
-
+-- how far the index has come, with its table
 abbrev pub progress : {S K : Type 0} → Index S K → List Row → Progress
 progress x table = at (x .place) (x .skipped) (x .rows) table
-
-abbrev pub held : Progress → List Row
-held s = take (s .rows) (s .table)

@@ -2,11 +2,11 @@
 ghost use mathlib.Core.Path.{_≡_};
 ghost use Prim.Native.Nat.{_≤_};
 ghost use Rattle.index.specs.Indexes.{cellsOf, meaningOf, standsAt, progress};
-ghost use Rattle.index.specs.Clearing.{ends-after, clearing, cleared, Tells};
+ghost use Rattle.listing.specs.Clearing.{ends-after, clearing, cleared, Tells};
 use crate::Index;
-use crate::answer::ClearRefusal;
-use crate::answer::Cleared;
-use crate::row::Row;
+use listing::answer::ClearRefusal;
+use listing::answer::Cleared;
+use indexfile::row::Row;
 use recording::Store;
 use records::kind::RecordKind;
 

@@ -4,10 +4,8 @@ ghost use Prim.Native.Nat.{_≤_};
 use recording::Store;
 use records::kind::RecordKind;
 
-pub mod answer;
 pub mod clear;
 pub mod open;
-pub mod row;
 pub mod run;
 pub mod scan;
 

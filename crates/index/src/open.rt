@@ -1,10 +1,10 @@
 // A new index of a recording, and what is promised of it.
 ghost use mathlib.Core.Path.{_≡_};
 ghost use mathlib.Core.List.{List};
-ghost use Rattle.index.specs.declared.row.Row.{Row};
+ghost use Rattle.indexfile.specs.declared.row.Row.{Row};
 ghost use Rattle.index.specs.Indexes.{cellsOf, meaningOf, progress};
-ghost use Rattle.index.specs.Visits.{unused};
-ghost use Rattle.index.specs.Promise.{Promise};
+ghost use Rattle.listing.specs.Visits.{unused};
+ghost use Rattle.listing.specs.Promise.{Promise};
 use crate::Index;
 use recording::Store;
 use records::kind::RecordKind;

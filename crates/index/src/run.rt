@@ -1,24 +1,15 @@
 // Visits to an index, one after the other, all with one table.
 ghost use mathlib.Core.Path.{_≡_};
 ghost use mathlib.Core.List.{List};
-ghost use Rattle.index.specs.declared.row.Row.{Row};
-ghost use Rattle.index.specs.Runs.{unmade, Made, Ran, Opened, Serves};
+ghost use Rattle.indexfile.specs.declared.row.Row.{Row};
+ghost use Rattle.index.specs.Calls.{Made, Ran, Opened, Serves};
 use crate::Index;
-use crate::answer::Answer;
-use crate::answer::Call;
-use crate::answer::Visit;
-use crate::row::Row;
+use listing::answer::Answer;
+use listing::answer::Call;
+use listing::answer::Visit;
+use indexfile::row::Row;
 use recording::Store;
 use records::kind::RecordKind;
-
-impl Visit {
-    // A call that is still to be made.
-    pub fn new(call: Call) -> Visit
-        ensures { λ r. ⌜ r ≡ unmade call ⌝ }
-    {
-        Visit { call, answer: None }
-    }
-}
 
 impl<S: Store + Drop, K: RecordKind + Drop> Index<S, K> {
     // Makes one call.

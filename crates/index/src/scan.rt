@@ -6,18 +6,33 @@ ghost use lib.ListN.{length};
 ghost use Rattle.std.specs.Options.{isSome, mapped};
 ghost use Rattle.std.specs.declared.option.Option.the-variants.{Some};
 ghost use Rattle.index.specs.Indexes.{cellsOf, standsAt};
-ghost use Rattle.index.specs.Listing.{rowAt};
-ghost use Rattle.index.specs.Scanning.{Turn, Turns, Scan};
+ghost use Rattle.listing.specs.Listing.{rowAt};
+ghost use Rattle.index.specs.Calls.{Turn, Turns, Scan};
 use crate::Index;
-use crate::answer::ScanRefusal;
-use crate::answer::Scanned;
-use crate::answer::Stop;
-use crate::row::Row;
+use listing::answer::ScanRefusal;
+use listing::answer::Scanned;
+use listing::answer::Stop;
+use indexfile::row::Row;
 use recording::Store;
+use records::kind::Record;
 use records::kind::RecordKind;
 
 // The most rows that an index holds, and the most tests of one scan.
 const MOST: u32 = 65_536;
+
+// The row of a record that stands at a place.
+pub(crate) fn row_of(place: u32, x: Record) -> Row
+    ensures { λ r. ⌜ r ≡ rowAt place x ⌝ }
+{
+    Row {
+        place,
+        length: x.length,
+        tag: x.tag,
+        source_type: x.source_type,
+        source_id: x.source_id,
+        time: x.time,
+    }
+}
 
 impl<S: Store + Drop, K: RecordKind + Drop> Index<S, K> {
     // The row of the record that stands at the place.
@@ -26,7 +41,7 @@ impl<S: Store + Drop, K: RecordKind + Drop> Index<S, K> {
         ensures { λ r. ⌜ mapped (rowAt at) (standsAt S·Store K·RecordKind (now (self .entry)) at) ≡ Some r ⌝ }
     {
         match self.kind.record(&self.store, at) {
-            Some(x) => Row::of(at, x),
+            Some(x) => row_of(at, x),
             None => unreachable(),
         }
     }

@@ -6,21 +6,21 @@ use native.Mathlib.Omega.{arith}
 use lib.ListN.{length, take, drop, length-take, take-append-drop}
 use Rattle.recording.specs.declared.Cell.{Cell}
 use Rattle.records.specs.Records.{Meaning, Laws}
-use Rattle.index.specs.declared.row.Row.{Row}
-use Rattle.index.specs.declared.answer.Call.the-variants as call
-use Rattle.index.specs.declared.answer.Stop.{Stop}
-use Rattle.index.specs.declared.answer.Stop.the-variants.{Ended, Spent, Full}
-use Rattle.index.specs.declared.answer.Scanned.{Scanned}
-use Rattle.index.specs.Listing.{listing, lengths}
-use Rattle.index.specs.Indexes.{Progress, held}
-use Rattle.index.specs.Scanning.{scanning}
-use Rattle.index.specs.Visits.{visited, unused}
-use Rattle.index.specs.Promise.{Why, extra, Goes, Used, Promise}
-use Rattle.index.specs.declared.answer.Visit.{Visit}
+use Rattle.indexfile.specs.declared.row.Row.{Row}
+use Rattle.listing.specs.declared.answer.Call.the-variants as call
+use Rattle.listing.specs.declared.answer.Stop.{Stop}
+use Rattle.listing.specs.declared.answer.Stop.the-variants.{Ended, Spent, Full}
+use Rattle.listing.specs.declared.answer.Scanned.{Scanned}
+use Rattle.listing.specs.Listing.{listing, lengths}
+use Rattle.listing.specs.Progress.{Progress, held}
+use Rattle.listing.specs.Scanning.{scanning}
+use Rattle.listing.specs.Visits.{visited, unused}
+use Rattle.listing.specs.Promise.{Why, extra, Goes, Used, Promise}
+use Rattle.listing.specs.declared.answer.Visit.{Visit}
 use Rattle.recording.specs.Cells.{plain, length-bytes}
-use Rattle.index.specs.Runs.{unmade}
+use Rattle.listing.specs.Visits.{unmade}
 use Rattle.lister.specs.Listed.{Ends}
-use Rattle.index.proofs.Lists.{turn-end}
+use Rattle.listing.proofs.Lists.{turn-end}
 
 module _ {M : ℕ} {m : Meaning} (laws : Laws M m) (cs : List Cell) (promise : Promise M m cs) (table : List Row) (short : length cs ≤ 32768) (size : length table ≡ length cs) where
   abbrev after : Progress

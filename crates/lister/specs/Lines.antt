@@ -3,7 +3,7 @@ use mathlib.Core.List.{List, _++_}
 use Prim.Native.Nat.{ℕ}
 use lib.Chars.{codes}
 use Rattle.std.specs.Written.{decimal}
-use Rattle.index.specs.declared.row.Row.{Row}
+use Rattle.indexfile.specs.declared.row.Row.{Row}
 use Rattle.lister.specs.declared.Counts.{Counts}
 
 -- place, length, tag, source type, source ID and time

@@ -9,8 +9,8 @@ use Rattle.std.specs.declared.result.Result.the-variants.{Ok, Err}
 use Rattle.recording.specs.declared.Cell.{Cell}
 use Rattle.recording.specs.Cells.{plain}
 use Rattle.records.specs.Records.{Meaning}
-use Rattle.index.specs.Listing.{listing, lengths}
-use Rattle.index.specs.Indexes.{Progress, at, held}
+use Rattle.listing.specs.Listing.{listing, lengths}
+use Rattle.listing.specs.Progress.{Progress, at, held}
 use Rattle.lister.specs.declared.Listed.{Listed}
 use Rattle.lister.specs.declared.ListError.{ListError}
 use Rattle.lister.specs.declared.ListError.the-variants.{TooLong, Memory}

@@ -2,7 +2,7 @@ use mathlib.Core.Path.{_≡_, sym, ap, subst, _∙_}
 use native.Mathlib.Omega.{arith}
 use Rattle.std.proofs.shelf.Lists.{refilled-is}
 use Rattle.recording.specs.Cells.{plain}
-use Rattle.index.specs.Indexes.{at}
+use Rattle.listing.specs.Progress.{at}
 use Rattle.lister.specs.Listed.{Ends}
 use Rattle.lister.proofs.list.Needs as need
 

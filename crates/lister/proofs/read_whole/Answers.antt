@@ -1,7 +1,8 @@
 use mathlib.Core.Path.{_≡_, sym, ap, subst, _∙_}
 use Rattle.recording.specs.declared.plain.Plain.{Plain}
 use Rattle.recording.specs.Cells.{plain}
-use Rattle.index.specs.Indexes.{at, progress}
+use Rattle.listing.specs.Progress.{at}
+use Rattle.index.specs.Indexes.{progress}
 use Rattle.lister.specs.Listed.{Ends}
 use Rattle.lister.proofs.ToTheEnd.{reads-all}
 use Rattle.lister.proofs.read_whole.Needs as need

@@ -1,5 +1,5 @@
 use borrow.Author.Needs.{needs}
-use Rattle.index.proofs.Clearness.{told}
+use Rattle.listing.proofs.Clearness.{told}
 use Rattle.index.proofs.Index.clear.Needs as need
 
 pub returns-then-boundary-len : need.returns-then-boundary-len

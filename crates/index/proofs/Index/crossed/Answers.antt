@@ -1,6 +1,6 @@
 use mathlib.Core.Path.{sym, _∙_}
 use native.Mathlib.Omega.{arith}
-use Rattle.index.proofs.Clears.{none-left, here, past, late}
+use Rattle.listing.proofs.Clears.{none-left, here, past, late}
 use Rattle.index.proofs.Index.crossed.Needs as need
 
 pub loop-at-holds : need.loop-at-holds

@@ -1,6 +1,6 @@
 use mathlib.Core.Path.{_≡_}
 use Prim.Native.Nat.{_-_}
-use Rattle.index.specs.Clearing.{first-of, cleared}
+use Rattle.listing.specs.Clearing.{first-of, cleared}
 use Rattle.index.proofs.Index.crossed.Given as given
 
 abbrev pub Inv-loop-at : given.InvT-loop-at

@@ -1,5 +1,5 @@
 use native.Mathlib.Omega.{arith}
-use Rattle.index.proofs.Inside.{inside}
+use Rattle.listing.proofs.Inside.{inside}
 use Rattle.index.proofs.Index.ends_after.Needs as need
 
 pub add-result : need.add-result

@@ -1,5 +1,5 @@
 use mathlib.Core.Path.{refl}
-use Rattle.index.proofs.Promised.{promised}
+use Rattle.listing.proofs.Promised.{promised}
 use Rattle.index.proofs.Index.open.Needs as need
 
 pub returns : need.returns

@@ -1,6 +1,6 @@
 use mathlib.Core.Path.{sym}
 use native.Mathlib.Omega.{arith}
-use Rattle.index.proofs.Inside.{inside}
+use Rattle.listing.proofs.Inside.{inside}
 use Rattle.index.proofs.Index.turn.Needs as need
 
 pub add-self-then-self-table-2 : need.add-self-then-self-table-2

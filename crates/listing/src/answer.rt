@@ -1,6 +1,7 @@
 // What is asked of an index, and what it answers.
 ghost use mathlib.Core.Path.{_≡_};
-ghost use Rattle.index.specs.Refusals.{scan-refusal, clear-refusal};
+ghost use Rattle.listing.specs.Visits.{unmade};
+ghost use Rattle.listing.specs.Refusals.{scan-refusal, clear-refusal};
 use refusals::Refusal;
 
 // Why a scan stopped: at the end, all its tests made, or a record found and no row free.
@@ -59,6 +60,15 @@ pub enum Answer {
 pub struct Visit {
     pub call: Call,
     pub answer: Option<Answer>,
+}
+
+impl Visit {
+    // A call that is still to be made.
+    pub fn new(call: Call) -> Visit
+        ensures { λ r. ⌜ r ≡ unmade call ⌝ }
+    {
+        Visit { call, answer: None }
+    }
 }
 
 pub impl Refusal for ScanRefusal as ScanRefusalNumbers {

@@ -9,11 +9,11 @@ use lib.Dec.{eqb}
 use Rattle.std.specs.shelf.Lists.{All}
 use Rattle.std.proofs.shelf.Tests.{eqb-true, eq-eqb, ne-eqb, or-cases, or-left, both-ways, cases-eq, cases-bool}
 use Rattle.recording.specs.declared.Cell.{Cell}
-use Rattle.index.specs.declared.row.Row.{Row}
+use Rattle.indexfile.specs.declared.row.Row.{Row}
 use Rattle.records.specs.Records.{Meaning, Laws}
-use Rattle.index.specs.Listing.{listing, listedAt, Standing, Ascending, Tabulates}
-use Rattle.index.proofs.Lists.{Lists, at-end, at-cell, at-record, lists-from}
-use Rattle.index.proofs.Chosen.{listing-chooses, chosen-one}
+use Rattle.listing.specs.Listing.{listing, listedAt, Standing, Ascending, Tabulates}
+use Rattle.listing.proofs.Lists.{Lists, at-end, at-cell, at-record, lists-from}
+use Rattle.listing.proofs.Chosen.{listing-chooses, chosen-one}
 
 rows-late : {m : Meaning} {cs : List Cell} {p : ℕ} {rows : List Row} → Lists m cs p rows → (b : ℕ) → b ≤ p → All (λ r. b ≤ r .place) rows
 rows-late (at-end h) b l = tt

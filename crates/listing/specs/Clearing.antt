@@ -13,12 +13,12 @@ use Rattle.std.specs.declared.result.Result.the-variants.{Ok, Err}
 use Rattle.recording.specs.declared.Cell.{Cell}
 use Rattle.records.specs.declared.kind.Record.{Record}
 use Rattle.records.specs.Records.{Meaning}
-use Rattle.index.specs.declared.answer.Cleared.{Cleared}
-use Rattle.index.specs.declared.answer.Cleared.the-variants.{Yes, Crossed}
-use Rattle.index.specs.declared.answer.ClearRefusal.{ClearRefusal}
-use Rattle.index.specs.declared.answer.ClearRefusal.the-variants.{ShortTable, PastEnd}
-use Rattle.index.specs.Listing.{Clear, Crosses}
-use Rattle.index.specs.Indexes.{Progress}
+use Rattle.listing.specs.declared.answer.Cleared.{Cleared}
+use Rattle.listing.specs.declared.answer.Cleared.the-variants.{Yes, Crossed}
+use Rattle.listing.specs.declared.answer.ClearRefusal.{ClearRefusal}
+use Rattle.listing.specs.declared.answer.ClearRefusal.the-variants.{ShortTable, PastEnd}
+use Rattle.listing.specs.Listing.{Clear, Crosses}
+use Rattle.listing.specs.Progress.{Progress}
 
 -- a record that stands at a place ends after the boundary
 abbrev pub ends-after : ℕ → ℕ → Option Record → Bool

@@ -17,23 +17,23 @@ use Rattle.std.specs.declared.result.Result.the-variants.{Ok, Err}
 use Rattle.recording.specs.declared.Cell.{Cell}
 use Rattle.records.specs.declared.kind.Record.{Record}
 use Rattle.records.specs.Records.{Meaning, Laws}
-use Rattle.index.specs.declared.row.Row.{Row}
-use Rattle.index.specs.declared.answer.Stop.{Stop}
-use Rattle.index.specs.declared.answer.Stop.the-variants.{Ended, Spent, Full}
-use Rattle.index.specs.declared.answer.Scanned.{Scanned}
-use Rattle.index.specs.declared.answer.ScanRefusal.the-variants.{WrongBudget}
-use Rattle.index.specs.declared.answer.ClearRefusal.the-variants.{PastEnd}
-use Rattle.index.specs.declared.answer.Call.{Call}
-use Rattle.index.specs.declared.answer.Call.the-variants as call
-use Rattle.index.specs.declared.answer.Visit.{Visit}
-use Rattle.index.specs.Listing.{rowAt, listing, lengths, onward, moved, ahead, EndsBy, Along}
-use Rattle.index.specs.Indexes.{Progress, at}
-use Rattle.index.specs.Scanning.{turned, Outcome, outcome, scanned, scanning, answer-to}
-use Rattle.index.specs.Visits.{called, visited, unused}
-use Rattle.index.specs.Promise.{Why, extra, Goes, Used}
-use Rattle.index.proofs.Scans.{ended, spent}
-use Rattle.index.proofs.Clearness.{tells, past}
-use Rattle.index.proofs.Along.{along-start, along-few, along-cell, along-record, one-more}
+use Rattle.indexfile.specs.declared.row.Row.{Row}
+use Rattle.listing.specs.declared.answer.Stop.{Stop}
+use Rattle.listing.specs.declared.answer.Stop.the-variants.{Ended, Spent, Full}
+use Rattle.listing.specs.declared.answer.Scanned.{Scanned}
+use Rattle.listing.specs.declared.answer.ScanRefusal.the-variants.{WrongBudget}
+use Rattle.listing.specs.declared.answer.ClearRefusal.the-variants.{PastEnd}
+use Rattle.listing.specs.declared.answer.Call.{Call}
+use Rattle.listing.specs.declared.answer.Call.the-variants as call
+use Rattle.listing.specs.declared.answer.Visit.{Visit}
+use Rattle.listing.specs.Listing.{rowAt, listing, lengths, onward, moved, ahead, EndsBy, Along}
+use Rattle.listing.specs.Progress.{Progress, at}
+use Rattle.listing.specs.Scanning.{turned, Outcome, outcome, scanned, scanning, answer-to}
+use Rattle.listing.specs.Visits.{called, visited, unused}
+use Rattle.listing.specs.Promise.{Why, extra, Goes, Used}
+use Rattle.listing.proofs.Scans.{ended, spent}
+use Rattle.listing.proofs.Clearness.{tells, past}
+use Rattle.listing.proofs.Along.{along-start, along-few, along-cell, along-record, one-more}
 
 -- an index along the listing, whose rows held are the listing's first
 pub record Faithful (m : Meaning) (cs : List Cell) (s : Progress) : Type 0 where

@@ -1,17 +1,21 @@
 -- Visits to an index, one after the other, all with one table.
 use mathlib.Core.List.{List, [], _∷_}
-use Rattle.std.specs.declared.option.Option.the-variants.{Some}
+use Rattle.std.specs.declared.option.Option.the-variants.{Some, None}
 use Rattle.recording.specs.declared.Cell.{Cell}
 use Rattle.records.specs.Records.{Meaning}
-use Rattle.index.specs.declared.row.Row.{Row}
-use Rattle.index.specs.declared.answer.Call.{Call}
-use Rattle.index.specs.declared.answer.Call.the-variants as call
-use Rattle.index.specs.declared.answer.Answer.{Answer}
-use Rattle.index.specs.declared.answer.Answer.the-variants as answer
-use Rattle.index.specs.declared.answer.Visit.{Visit}
-use Rattle.index.specs.Indexes.{Progress, at}
-use Rattle.index.specs.Scanning.{scanning}
-use Rattle.index.specs.Clearing.{clearing}
+use Rattle.indexfile.specs.declared.row.Row.{Row}
+use Rattle.listing.specs.declared.answer.Call.{Call}
+use Rattle.listing.specs.declared.answer.Call.the-variants as call
+use Rattle.listing.specs.declared.answer.Answer.{Answer}
+use Rattle.listing.specs.declared.answer.Answer.the-variants as answer
+use Rattle.listing.specs.declared.answer.Visit.{Visit}
+use Rattle.listing.specs.Progress.{Progress, at}
+use Rattle.listing.specs.Scanning.{scanning}
+use Rattle.listing.specs.Clearing.{clearing}
+
+-- a call that is still to be made
+abbrev pub unmade : Call → Visit
+unmade c = record { call = c; answer = None }
 
 -- a new index, with the table that all its calls will have
 abbrev pub unused : List Row → Progress

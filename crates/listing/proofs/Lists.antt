@@ -10,9 +10,9 @@ use Rattle.std.specs.declared.option.Option.{Option}
 use Rattle.std.specs.declared.option.Option.the-variants.{Some, None}
 use Rattle.recording.specs.declared.Cell.{Cell}
 use Rattle.records.specs.declared.kind.Record.{Record}
-use Rattle.index.specs.declared.row.Row.{Row}
+use Rattle.indexfile.specs.declared.row.Row.{Row}
 use Rattle.records.specs.Records.{Meaning, Laws}
-use Rattle.index.specs.Listing.{rowAt, turns, listingFrom}
+use Rattle.listing.specs.Listing.{rowAt, turns, listingFrom}
 
 pub data Lists (m : Meaning) (cs : List Cell) : ℕ → List Row → Type 0 where
   at-end : {p : ℕ} → length cs ≤ p → Lists m cs p []

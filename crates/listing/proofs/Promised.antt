@@ -4,13 +4,13 @@ use mathlib.Core.List.{List}
 use Prim.Native.Nat.{ℕ}
 use Rattle.recording.specs.declared.Cell.{Cell}
 use Rattle.records.specs.Records.{Meaning, Laws}
-use Rattle.index.specs.Listing.{Chooses}
-use Rattle.index.specs.Promise.{Promise}
-use Rattle.index.proofs.Boundaries.{resynchronised}
-use Rattle.index.proofs.Nearby.{both-clear}
-use Rattle.index.proofs.Chosen.{listing-chooses, listing-chosen}
-use Rattle.index.proofs.Table.{listing-is}
-use Rattle.index.proofs.Walks.{used}
+use Rattle.listing.specs.Listing.{Chooses}
+use Rattle.listing.specs.Promise.{Promise}
+use Rattle.listing.proofs.Boundaries.{resynchronised}
+use Rattle.listing.proofs.Nearby.{both-clear}
+use Rattle.listing.proofs.Chosen.{listing-chooses, listing-chosen}
+use Rattle.listing.proofs.Table.{listing-is}
+use Rattle.listing.proofs.Walks.{used}
 
 pub promised : {M : ℕ} {m : Meaning} → Laws M m → (cs : List Cell) → Promise M m cs
 promised {M} {m} laws cs = record {

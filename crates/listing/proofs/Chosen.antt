@@ -11,10 +11,10 @@ use Rattle.std.proofs.shelf.Tests.{eqb-true, eqb-false, eq-eqb, ne-eqb, or-case
 use Rattle.std.specs.declared.option.Option.the-variants.{Some}
 use Rattle.recording.specs.declared.Cell.{Cell}
 use Rattle.records.specs.declared.kind.Record.{Record}
-use Rattle.index.specs.declared.row.Row.{Row}
+use Rattle.indexfile.specs.declared.row.Row.{Row}
 use Rattle.records.specs.Records.{Meaning, Laws}
-use Rattle.index.specs.Listing.{rowAt, listing, listedAt, Covered, Chooses}
-use Rattle.index.proofs.Lists.{Lists, at-end, at-cell, at-record, lists-from}
+use Rattle.listing.specs.Listing.{rowAt, listing, listedAt, Covered, Chooses}
+use Rattle.listing.proofs.Lists.{Lists, at-end, at-cell, at-record, lists-from}
 
 -- a listed place is at the start or later, and a record stands there
 pub listed-late : {m : Meaning} {cs : List Cell} {p : ℕ} {rows : List Row} → Lists m cs p rows → (q : ℕ) → listedAt rows q ≡ true → p ≤ q

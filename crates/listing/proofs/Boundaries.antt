@@ -9,11 +9,11 @@ use Rattle.std.proofs.shelf.Tests.{le-leb, lt-leb, le-ltb, cases-lt}
 use Rattle.std.specs.declared.option.Option.the-variants.{Some}
 use Rattle.recording.specs.declared.Cell.{Cell}
 use Rattle.records.specs.declared.kind.Record.{Record}
-use Rattle.index.specs.declared.row.Row.{Row}
+use Rattle.indexfile.specs.declared.row.Row.{Row}
 use Rattle.records.specs.Records.{Meaning, Laws}
-use Rattle.index.specs.Listing.{rowAt, listing, Clear, ahead, behind, counted}
-use Rattle.index.proofs.SameTest.{same-test}
-use Rattle.index.proofs.Lists.{Lists, at-end, at-cell, at-record, rows-end, rows-cell, rows-record, lists-from}
+use Rattle.listing.specs.Listing.{rowAt, listing, Clear, ahead, behind, counted}
+use Rattle.listing.proofs.SameTest.{same-test}
+use Rattle.listing.proofs.Lists.{Lists, at-end, at-cell, at-record, rows-end, rows-cell, rows-record, lists-from}
 
 -- the rows from a place on begin there or later
 pub behind-all : {m : Meaning} {cs : List Cell} {p : ℕ} {rows : List Row} → Lists m cs p rows → (b : ℕ) → b ≤ p → behind b rows ≡ rows

@@ -13,11 +13,11 @@ use Rattle.std.proofs.shelf.Elements.{kept-by-append, all-take, all-weaker, all
 use Rattle.std.specs.declared.option.Option.the-variants.{Some, None}
 use Rattle.recording.specs.declared.Cell.{Cell}
 use Rattle.records.specs.declared.kind.Record.{Record}
-use Rattle.index.specs.declared.row.Row.{Row}
+use Rattle.indexfile.specs.declared.row.Row.{Row}
 use Rattle.records.specs.Records.{Meaning, Laws}
-use Rattle.index.specs.Listing.{rowAt, listing, ahead, lengths, EndsBy, Along}
-use Rattle.index.proofs.Lists.{Lists, at-end, at-cell, at-record, rows-cell, rows-record, lists-from, from-lists}
-use Rattle.index.proofs.Boundaries.{ahead-none}
+use Rattle.listing.specs.Listing.{rowAt, listing, ahead, lengths, EndsBy, Along}
+use Rattle.listing.proofs.Lists.{Lists, at-end, at-cell, at-record, rows-cell, rows-record, lists-from, from-lists}
+use Rattle.listing.proofs.Boundaries.{ahead-none}
 
 lengths-append : (r s : List Row) → lengths (r ++ s) ≡ lengths r + lengths s
 lengths-append [] s = omega arith

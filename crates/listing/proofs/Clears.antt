@@ -12,9 +12,9 @@ use Rattle.std.specs.declared.option.Option.{Option}
 use Rattle.std.specs.declared.option.Option.the-variants.{Some, None}
 use Rattle.recording.specs.declared.Cell.{Cell}
 use Rattle.records.specs.declared.kind.Record.{Record}
-use Rattle.index.specs.declared.answer.Cleared.the-variants.{Yes, Crossed}
+use Rattle.listing.specs.declared.answer.Cleared.the-variants.{Yes, Crossed}
 use Rattle.records.specs.Records.{Meaning, Laws}
-use Rattle.index.specs.Clearing.{ends-after, first-of}
+use Rattle.listing.specs.Clearing.{ends-after, first-of}
 
 module _ (m : Meaning) (cs : List Cell) (b : ℕ) where
   pub none-left : (n p : ℕ) → n ≡ 0 → first-of m cs b n p ≡ Yes

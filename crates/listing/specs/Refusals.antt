@@ -1,10 +1,10 @@
 -- What the refusals of an index tell.
 use Rattle.refusals.specs.declared.Notice.{Notice}
 use Rattle.refusals.specs.Notices.{nowhere}
-use Rattle.index.specs.declared.answer.ScanRefusal.{ScanRefusal}
-use Rattle.index.specs.declared.answer.ScanRefusal.the-variants as scan
-use Rattle.index.specs.declared.answer.ClearRefusal.{ClearRefusal}
-use Rattle.index.specs.declared.answer.ClearRefusal.the-variants as clear
+use Rattle.listing.specs.declared.answer.ScanRefusal.{ScanRefusal}
+use Rattle.listing.specs.declared.answer.ScanRefusal.the-variants as scan
+use Rattle.listing.specs.declared.answer.ClearRefusal.{ClearRefusal}
+use Rattle.listing.specs.declared.answer.ClearRefusal.the-variants as clear
 
 -- 25: the table is shorter than the rows held; 1: the budget is not 1 to 65,536
 abbrev pub scan-refusal : ScanRefusal → Notice

@@ -16,13 +16,13 @@ use Rattle.std.specs.declared.result.Result.the-variants.{Ok, Err}
 use Rattle.recording.specs.declared.Cell.{Cell}
 use Rattle.records.specs.declared.kind.Record.{Record}
 use Rattle.records.specs.Records.{Meaning, Laws}
-use Rattle.index.specs.declared.answer.Cleared.{Cleared}
-use Rattle.index.specs.declared.answer.Cleared.the-variants.{Yes, Crossed}
-use Rattle.index.specs.declared.answer.ClearRefusal.{ClearRefusal}
-use Rattle.index.specs.declared.answer.ClearRefusal.the-variants.{ShortTable, PastEnd}
-use Rattle.index.specs.Listing.{Clear, Crosses}
-use Rattle.index.specs.Indexes.{Progress}
-use Rattle.index.specs.Clearing.{ends-after, first-of, cleared, clearing, Tells}
+use Rattle.listing.specs.declared.answer.Cleared.{Cleared}
+use Rattle.listing.specs.declared.answer.Cleared.the-variants.{Yes, Crossed}
+use Rattle.listing.specs.declared.answer.ClearRefusal.{ClearRefusal}
+use Rattle.listing.specs.declared.answer.ClearRefusal.the-variants.{ShortTable, PastEnd}
+use Rattle.listing.specs.Listing.{Clear, Crosses}
+use Rattle.listing.specs.Progress.{Progress}
+use Rattle.listing.specs.Clearing.{ends-after, first-of, cleared, clearing, Tells}
 
 module _ (m : Meaning) (cs : List Cell) (b : ℕ) where
   -- no record of the places from p up to q ends after the boundary

@@ -1,8 +1,7 @@
 -- A scan, turn by turn.
-use mathlib.Core.Path.{_≡_}
 use mathlib.Core.Bool.{Bool, true, false, cond}
 use mathlib.Core.List.{List}
-use Prim.Native.Nat.{ℕ, zero, suc, _+_, _-_, _≤_, min}
+use Prim.Native.Nat.{ℕ, zero, suc, _+_, _-_, min}
 use lib.Dec.{leb, ltb}
 use lib.ListN.{length, set}
 use Rattle.std.specs.declared.option.Option.{Option}
@@ -12,15 +11,13 @@ use Rattle.std.specs.declared.result.Result.the-variants.{Ok, Err}
 use Rattle.recording.specs.declared.Cell.{Cell}
 use Rattle.records.specs.declared.kind.Record.{Record}
 use Rattle.records.specs.Records.{Meaning}
-use Rattle.index.specs.declared.Index.{Index}
-use Rattle.index.specs.declared.row.Row.{Row}
-use Rattle.index.specs.declared.answer.Stop.{Stop}
-use Rattle.index.specs.declared.answer.Stop.the-variants.{Ended, Spent, Full}
-use Rattle.index.specs.declared.answer.Scanned.{Scanned}
-use Rattle.index.specs.declared.answer.ScanRefusal.{ScanRefusal}
-use Rattle.index.specs.declared.answer.ScanRefusal.the-variants.{ShortTable, WrongBudget}
-use Rattle.index.specs.Listing.{rowAt}
-use Rattle.index.specs.Indexes.{Stores, Kinds, cellsOf, meaningOf, standsAt, Progress, at, progress}
+use Rattle.listing.specs.declared.answer.Stop.{Stop}
+use Rattle.listing.specs.declared.answer.Stop.the-variants.{Ended, Spent, Full}
+use Rattle.listing.specs.declared.answer.Scanned.{Scanned}
+use Rattle.listing.specs.declared.answer.ScanRefusal.{ScanRefusal}
+use Rattle.listing.specs.declared.answer.ScanRefusal.the-variants.{ShortTable, WrongBudget}
+use Rattle.listing.specs.Listing.{rowAt}
+use Rattle.listing.specs.Progress.{Progress, at}
 
 -- a row is free below the table's end, and below 65,536
 abbrev pub free : Progress → Bool
@@ -56,23 +53,3 @@ abbrev pub scanning : Meaning → List Cell → ℕ → Progress → Result Scan
 scanning m cs budget s =
     cond (ltb (length (s .table)) (s .rows)) (Err ShortTable, s)
     (cond (ltb budget 1) (Err WrongBudget, s) (cond (ltb 65536 budget) (Err WrongBudget, s) (answer-to s (scanned m cs budget 0 s))))
-
--- an index and its table after one turn, after a run of turns, and after a call: over the same store and kind
-pub record Turn {S K : Type 0} (s : Stores S) (k : Kinds K) (x : Index S K) (table : List Row) (r : Bool) (y : Index S K) (after : List Row) : Type 0 where
-  pub store : y .store ≡ x .store
-  pub kind : y .kind ≡ x .kind
-  pub grows : x .rows ≤ y .rows
-  pub went : r ≡ turned (standsAt s k x (x .place)) (progress x table) .0
-  pub left : progress y after ≡ turned (standsAt s k x (x .place)) (progress x table) .1
-
-pub record Turns {S K : Type 0} (s : Stores S) (k : Kinds K) (budget : ℕ) (x : Index S K) (table : List Row) (stop : Stop) (tests : ℕ) (y : Index S K) (after : List Row) : Type 0 where
-  pub store : y .store ≡ x .store
-  pub kind : y .kind ≡ x .kind
-  pub grows : x .rows ≤ y .rows
-  pub run : outcome stop tests (progress y after) ≡ scanned (meaningOf k x) (cellsOf s x) budget 0 (progress x table)
-
-pub record Scan {S K : Type 0} (s : Stores S) (k : Kinds K) (budget : ℕ) (x : Index S K) (table : List Row) (r : Result Scanned ScanRefusal) (y : Index S K) (after : List Row) : Type 0 where
-  pub store : y .store ≡ x .store
-  pub kind : y .kind ≡ x .kind
-  pub answer : r ≡ scanning (meaningOf k x) (cellsOf s x) budget (progress x table) .0
-  pub left : progress y after ≡ scanning (meaningOf k x) (cellsOf s x) budget (progress x table) .1

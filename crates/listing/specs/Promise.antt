@@ -14,19 +14,19 @@ use Rattle.recording.specs.declared.Cell.the-variants.{Lost}
 use Rattle.refusals.specs.Notices.{nowhere}
 use Rattle.records.specs.declared.kind.Record.{Record}
 use Rattle.records.specs.Records.{Meaning}
-use Rattle.index.specs.declared.row.Row.{Row}
-use Rattle.index.specs.declared.answer.Stop.{Stop}
-use Rattle.index.specs.declared.answer.Stop.the-variants.{Ended, Spent, Full}
-use Rattle.index.specs.declared.answer.Scanned.{Scanned}
-use Rattle.index.specs.declared.answer.ScanRefusal.{ScanRefusal}
-use Rattle.index.specs.declared.answer.ClearRefusal.{ClearRefusal}
-use Rattle.index.specs.declared.answer.Visit.{Visit}
-use Rattle.index.specs.Refusals.{scan-refusal, clear-refusal}
-use Rattle.index.specs.Listing.{listing, lengths, moved, EndsBy, Clear, ahead, behind, counted, listedAt, Chooses, Tabulates, Along}
-use Rattle.index.specs.Indexes.{Progress, held}
-use Rattle.index.specs.Scanning.{scanning}
-use Rattle.index.specs.Clearing.{clearing, Tells}
-use Rattle.index.specs.Visits.{visited, unused}
+use Rattle.indexfile.specs.declared.row.Row.{Row}
+use Rattle.listing.specs.declared.answer.Stop.{Stop}
+use Rattle.listing.specs.declared.answer.Stop.the-variants.{Ended, Spent, Full}
+use Rattle.listing.specs.declared.answer.Scanned.{Scanned}
+use Rattle.listing.specs.declared.answer.ScanRefusal.{ScanRefusal}
+use Rattle.listing.specs.declared.answer.ClearRefusal.{ClearRefusal}
+use Rattle.listing.specs.declared.answer.Visit.{Visit}
+use Rattle.listing.specs.Refusals.{scan-refusal, clear-refusal}
+use Rattle.listing.specs.Listing.{listing, lengths, moved, EndsBy, Clear, ahead, behind, counted, listedAt, Chooses, Tabulates, Along}
+use Rattle.listing.specs.Progress.{Progress, held}
+use Rattle.listing.specs.Scanning.{scanning}
+use Rattle.listing.specs.Clearing.{clearing, Tells}
+use Rattle.listing.specs.Visits.{visited, unused}
 
 -- what holds where a scan stopped: it is at the end; or before it, with all its tests made; or at a record, with no row free
 abbrev pub Why : Meaning → List Cell → ℕ → ℕ → Progress → Stop → Type 0

@@ -12,8 +12,8 @@ use Rattle.recording.specs.declared.Cell.{Cell}
 use Rattle.recording.specs.declared.Cell.the-variants.{Lost}
 use Rattle.records.specs.declared.kind.Record.{Record}
 use Rattle.records.specs.Records.{Meaning, Laws, run}
-use Rattle.index.specs.Listing.{Clear}
-use Rattle.index.specs.Promise.{before}
+use Rattle.listing.specs.Listing.{Clear}
+use Rattle.listing.specs.Promise.{before}
 
 before-is : (cs : List Cell) (b i p : ℕ) → i ≤ b → b - i ≡ p → before cs b i ≡ getD cs p Lost
 before-is cs b i p l e = rw (le-ltb b i l, e)

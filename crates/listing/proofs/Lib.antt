@@ -1,0 +1,13 @@
+pub mod Lists
+pub mod SameTest
+pub mod Inside
+pub mod Boundaries
+pub mod Nearby
+pub mod Chosen
+pub mod Table
+pub mod Along
+pub mod Scans
+pub mod Clears
+pub mod Clearness
+pub mod Walks
+pub mod Promised
