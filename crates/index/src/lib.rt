@@ -5,9 +5,13 @@ use recording::Store;
 use records::kind::RecordKind;
 
 pub mod clear;
+pub mod fetch;
+pub mod inspect;
 pub mod open;
 pub mod run;
+pub mod save;
 pub mod scan;
+pub mod settle;
 
 #[derive(Drop)]
 pub struct Index<S: Store + Drop, K: RecordKind + Drop> {

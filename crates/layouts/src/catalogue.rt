@@ -26,7 +26,7 @@ pub struct Layout {
 }
 
 // The layout of a type, if its bodies are fixed.
-pub fn layout_of(data_type: u16) -> Option<Layout>
+pub fn layout_of(data_type: u32) -> Option<Layout>
     ensures value { λ r. ⌜ mapped laid r ≡ layoutOf «data_type» ⌝ }
     ensures whole { λ r. ⌜ BySome r (Unit {0}) (λ l. (l .length ≡ totalOf (now (l .letters))) × (length (now (l .letters)) ≤ 100)) ⌝ }
     ensures table { λ _. ⌜ Sums ⌝ }
@@ -125,7 +125,7 @@ pub fn layout_of(data_type: u16) -> Option<Layout>
     Some(layout)
 }
 
-pub(crate) fn fixed_layout(data_type: u16, body: &[u8]) -> Result<Layout, LayoutFault>
+pub(crate) fn fixed_layout(data_type: u32, body: &[u8]) -> Result<Layout, LayoutFault>
     ensures value { λ r. ⌜ okMapped laid (λ e. e) r ≡ fixedBody «data_type» (now (body .entry)) ⌝ }
     ensures whole { λ r. ⌜ made r (λ l. (length (now (body .entry)) ≡ totalOf (now (l .letters))) × (length (now (l .letters)) ≤ 100)) ⌝ }
 {
@@ -137,7 +137,7 @@ pub(crate) fn fixed_layout(data_type: u16, body: &[u8]) -> Result<Layout, Layout
 }
 
 // Whether a body has the length of its type's layout.
-pub fn judge_fixed(data_type: u16, body: &[u8]) -> Result<(), LayoutFault>
+pub fn judge_fixed(data_type: u32, body: &[u8]) -> Result<(), LayoutFault>
     ensures { λ r. ⌜ r ≡ sound (fixedBody «data_type» (now (body .entry))) ⌝ }
 {
     fixed_layout(data_type, body)?;

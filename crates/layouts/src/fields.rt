@@ -49,9 +49,9 @@ fn settings_place(body: &[u8], n: usize) -> Result<(usize, Letter), FieldFault>
     settings_field(settings.version, settings.altimeter, n).ok_or(FieldFault::NoField)
 }
 
-// The place and the letter of a field; only a sound body has fields.
-pub(crate) fn field_place(
-    data_type: u16,
+// Where a field begins, and its letter; only a sound body has fields.
+pub fn field_place(
+    data_type: u32,
     body: &[u8],
     n: usize,
 ) -> Result<(usize, Letter), FieldFault>
@@ -66,7 +66,7 @@ pub(crate) fn field_place(
 }
 
 // What field n of a body says.
-pub fn read_field(data_type: u16, body: &[u8], n: usize) -> Result<Field<'_>, FieldFault>
+pub fn read_field(data_type: u32, body: &[u8], n: usize) -> Result<Field<'_>, FieldFault>
     ensures { λ r. ⌜ mapped means (λ e. e) r ≡ valueOf «data_type» (now (body .entry)) n ⌝ }
 {
     let (at, letter) = field_place(data_type, body, n)?;

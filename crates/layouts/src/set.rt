@@ -95,7 +95,7 @@ fn put_number(s: &mut [u8], at: usize, letter: Letter, n: u64) -> Result<(), Fie
 }
 
 pub fn set_field(
-    data_type: u16,
+    data_type: u32,
     body: &mut [u8],
     n: usize,
     value: Field<'_>,

@@ -15,7 +15,8 @@ use Rattle.recording.specs.declared.Cell.{Cell}
 use Rattle.records.specs.declared.kind.Record.{Record}
 use Rattle.indexfile.specs.declared.row.Row.{Row}
 use Rattle.records.specs.Records.{Meaning, Laws}
-use Rattle.listing.specs.Listing.{rowAt, listing, ahead, lengths, EndsBy, Along}
+use Rattle.indexfile.specs.Files.{lengths}
+use Rattle.listing.specs.Listing.{rowAt, listing, ahead, EndsBy, Along}
 use Rattle.listing.proofs.Lists.{Lists, at-end, at-cell, at-record, rows-cell, rows-record, lists-from, from-lists}
 use Rattle.listing.proofs.Boundaries.{ahead-none}
 

@@ -5,9 +5,15 @@ pub mod Boundaries
 pub mod Nearby
 pub mod Chosen
 pub mod Table
+pub mod Moved
+pub mod HeldRows
 pub mod Along
 pub mod Scans
 pub mod Clears
 pub mod Clearness
+pub mod Copies
+pub mod Fetched
+pub mod Settles
 pub mod Walks
+pub mod Alike
 pub mod Promised

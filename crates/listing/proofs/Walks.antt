@@ -26,20 +26,16 @@ use Rattle.listing.specs.declared.answer.ClearRefusal.the-variants.{PastEnd}
 use Rattle.listing.specs.declared.answer.Call.{Call}
 use Rattle.listing.specs.declared.answer.Call.the-variants as call
 use Rattle.listing.specs.declared.answer.Visit.{Visit}
-use Rattle.listing.specs.Listing.{rowAt, listing, lengths, onward, moved, ahead, EndsBy, Along}
+use Rattle.indexfile.specs.Files.{lengths}
+use Rattle.listing.specs.Listing.{rowAt, listing, onward, moved, ahead, EndsBy, Along}
 use Rattle.listing.specs.Progress.{Progress, at}
 use Rattle.listing.specs.Scanning.{turned, Outcome, outcome, scanned, scanning, answer-to}
-use Rattle.listing.specs.Visits.{called, visited, unused}
+use Rattle.listing.specs.Visits.{after, visited, unused}
 use Rattle.listing.specs.Promise.{Why, extra, Goes, Used}
 use Rattle.listing.proofs.Scans.{ended, spent}
 use Rattle.listing.proofs.Clearness.{tells, past}
+use Rattle.listing.proofs.HeldRows.{Faithful, holds, lacks, saves}
 use Rattle.listing.proofs.Along.{along-start, along-few, along-cell, along-record, one-more}
-
--- an index along the listing, whose rows held are the listing's first
-pub record Faithful (m : Meaning) (cs : List Cell) (s : Progress) : Type 0 where
-  pub along : Along m cs (s .place) (s .skipped) (s .rows)
-  pub same : take (s .rows) (s .table) ≡ take (s .rows) (listing m cs)
-  pub room : s .rows ≤ min (length (s .table)) 65536
 
 abbrev skip : Progress → Progress
 skip s = at (s .place + 1) (s .skipped + 1) (s .rows) (s .table)
@@ -179,12 +175,12 @@ module _ {M : ℕ} {m : Meaning} (laws : Laws M m) (cs : List Cell) where
     | inl h ↦ rw (too-many budget s (k .faithful) h) k
     | inr h ↦ elim (cases-lt budget 1) [
       | inl l ↦ rw (too-few budget s (k .faithful) (omega arith)) k
-      | inr l ↦ rw (welcome budget s (k .faithful) l h) (after (scanned m cs budget 0 s) (ran budget 0 s (k .faithful)))
+      | inr l ↦ rw (welcome budget s (k .faithful) l h) (goes-on (scanned m cs budget 0 s) (ran budget 0 s (k .faithful)))
     ]
   ]
     where
-      after : (o : Outcome) → Ran m cs budget 0 s o → Kept table (o .left)
-      after o r =
+      goes-on : (o : Outcome) → Ran m cs budget 0 s o → Kept table (o .left)
+      goes-on o r =
           let n = o .left .rows in
           let t = take n (listing m cs) in
           let found : length t ≡ n = length-take n (listing m cs) ∙ omega (arith, r .faithful .along .found) in
@@ -196,13 +192,17 @@ module _ {M : ℕ} {m : Meaning} (laws : Laws M m) (cs : List Cell) where
             size = r .size ∙ k .size;
           }
 
-  call-kept : (table : List Row) (c : Call) (s : Progress) → Kept table s → Kept table (called m cs c s .1)
+  call-kept : (table : List Row) (c : Call) (s : Progress) → Kept table s → Kept table (after m cs c s)
   call-kept table (call.Scan budget) s k = scan-kept table budget s k
   call-kept table (call.Clear boundary) s k = k
+  call-kept table (call.Fetch row) s k = k
+  call-kept table (call.Settle row) s k = k
+  call-kept table (call.Inspect row) s k = k
+  call-kept table call.Save s k = k
 
   visits-kept : (table : List Row) (vs : List Visit) (s : Progress) → Kept table s → Kept table (visited m cs vs s)
   visits-kept table [] s k = k
-  visits-kept table (v ∷ vs) s k = visits-kept table vs (called m cs (v .call) s .1) (call-kept table (v .call) s k)
+  visits-kept table (v ∷ vs) s k = visits-kept table vs (after m cs (v .call) s) (call-kept table (v .call) s k)
 
   kept-after : (table : List Row) (vs : List Visit) → Kept table (visited m cs vs (unused table))
   kept-after table vs = visits-kept table vs (unused table) (record { faithful = record { along = along-start laws cs; same = refl; room = omega arith }; others = refl; size = refl })
@@ -223,7 +223,13 @@ module _ {M : ℕ} {m : Meaning} (laws : Laws M m) (cs : List Cell) where
         no-scan = λ budget h. (WrongBudget, elim h [ inl e ↦ too-few budget s f e | inr l ↦ too-many budget s f l ], refl);
         clears = λ b. tells m cs b s laws;
         no-clear = λ b h. (PastEnd, past m cs b s (omega (arith, f .room)) h, refl);
+        holds = holds laws cs s f;
+        lacks = lacks laws cs s f;
+        saves = saves laws cs s f;
       }
+
+  pub faithful-after : (table : List Row) (vs : List Visit) → Faithful m cs (visited m cs vs (unused table))
+  faithful-after table vs = kept-after table vs .faithful
 
   pub used : (table : List Row) (vs : List Visit) → Used m cs table (visited m cs vs (unused table))
   used table vs = used-well table (visited m cs vs (unused table)) (kept-after table vs)

@@ -3,5 +3,8 @@ pub mod Progress
 pub mod Refusals
 pub mod Scanning
 pub mod Clearing
+pub mod Fetching
+pub mod Settling
+pub mod Saving
 pub mod Visits
 pub mod Promise

@@ -13,6 +13,7 @@ use Rattle.recording.specs.declared.Cell.{Cell}
 use Rattle.records.specs.declared.kind.Record.{Record}
 use Rattle.records.specs.Records.{Meaning}
 use Rattle.indexfile.specs.declared.row.Row.{Row}
+use Rattle.indexfile.specs.Files.{lengths}
 
 -- the row of a record that stands at a place
 abbrev pub rowAt : ℕ → Record → Row
@@ -61,11 +62,6 @@ behind b rows = kept-by (λ r. leb b (r .place)) rows
 -- a row with its place counted from b
 abbrev pub counted : ℕ → Row → Row
 counted b r = record { place = r .place - b; length = r .length; tag = r .tag; «source_type» = r .«source_type»; «source_id» = r .«source_id»; time = r .time }
-
--- the sum of the rows' lengths
-abbrev pub lengths : List Row → ℕ
-lengths [] = 0
-lengths (r ∷ rows) = r .length + lengths rows
 
 -- a row ends at the place or before it
 abbrev pub EndsBy : ℕ → Row → Type 0
