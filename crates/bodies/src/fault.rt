@@ -99,32 +99,32 @@ pub impl Refusal for TupleFault as TupleFaultRefusal {
 pub impl From<LayoutFault> for BodyFault as FromLayout {
     ghost converts = { λ x y. y ≡ inMembers x };
 
-    fn from(fault: LayoutFault) -> BodyFault {
-        BodyFault::Members(fault)
+    fn from(wrong: LayoutFault) -> BodyFault {
+        BodyFault::Members(wrong)
     }
 }
 
 pub impl From<PacketFault> for BodyFault as FromPacket {
     ghost converts = { λ x y. y ≡ inPackets x };
 
-    fn from(fault: PacketFault) -> BodyFault {
-        BodyFault::Packets(fault)
+    fn from(wrong: PacketFault) -> BodyFault {
+        BodyFault::Packets(wrong)
     }
 }
 
 pub impl From<UserFault> for BodyFault as FromUser {
     ghost converts = { λ x y. y ≡ inUser x };
 
-    fn from(fault: UserFault) -> BodyFault {
-        BodyFault::User(fault)
+    fn from(wrong: UserFault) -> BodyFault {
+        BodyFault::User(wrong)
     }
 }
 
 pub impl From<BodyFault> for Wrong as FromBody {
     ghost converts = { λ x y. y ≡ inBody x };
 
-    fn from(fault: BodyFault) -> Wrong {
-        Wrong::Body(fault)
+    fn from(wrong: BodyFault) -> Wrong {
+        Wrong::Body(wrong)
     }
 }
 

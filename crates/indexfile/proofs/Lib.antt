@@ -1,4 +1,5 @@
 pub mod Bytes
 pub mod Orders
+pub mod Numbered
 pub mod Writes
 pub mod Rounds

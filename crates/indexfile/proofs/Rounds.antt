@@ -2,30 +2,20 @@
 use mathlib.Core.Path.{_≡_, refl, sym, ap, subst, _∙_}
 use mathlib.Core.Bool.{Bool, true}
 use mathlib.Core.List.{List, [], _∷_, _++_}
-use Prim.Native.Nat.{ℕ, zero, suc, _+_, _*_, _^_, _≤_, _<_}
+use Prim.Native.Nat.{ℕ, suc, _+_, _*_, _^_, _≤_, _<_}
 use native.Mathlib.Omega.{arith}
 use lib.Dec.{leb}
-use lib.ListN.{length, take, drop, getD}
+use lib.ListN.{length, take, getD}
 use Rattle.std.specs.Joined.{joined}
-use Rattle.std.proofs.shelf.Lists.{drop-drop, take-at}
+use Rattle.std.proofs.shelf.Lists.{take-at}
 use Rattle.std.proofs.shelf.Tests.{and-from, le-leb, eq-eqb}
 use Rattle.indexfile.specs.declared.row.Row.{Row}
 use Rattle.indexfile.specs.Numbers.{number}
-use Rattle.indexfile.specs.Files.{soundRows, rowBytes, fileOf, rowOf, rowIn, rowsOf, rowsIn, shaped, Wide, noRow, ReadsBack}
+use Rattle.indexfile.specs.Files.{soundRows, rowBytes, fileOf, rowOf, rowsOf, rowsIn, shaped}
+use Rattle.indexfile.specs.Written.{Wide, noRow, ReadsBack}
 use Rattle.indexfile.proofs.Bytes.{little-bytes}
+use Rattle.indexfile.proofs.Numbered.{row-in}
 use Rattle.indexfile.proofs.Writes.{length-file}
-
--- a row of a file, by its number
-at-rows : (m n : ℕ) (bs : List ℕ) (d : Row) → n < m → getD (rowsOf m bs) n d ≡ rowOf (drop (20 * n) bs)
-at-rows zero n bs d h = absurd (omega arith)
-at-rows (suc m) zero bs d h = refl
-at-rows (suc m) (suc n) bs d h =
-    let l : n < m = omega arith in
-    let e : 20 + 20 * n ≡ 20 * suc n = omega arith in
-    at-rows m n (drop 20 bs) d l ∙ ap rowOf (drop-drop (20 * n) 20 bs) ∙ ap (λ k. rowOf (drop k bs)) e
-
-pub row-in : (bs : List ℕ) (n : ℕ) (d : Row) → n < number bs 0 4 → getD (rowsIn bs) n d ≡ rowIn bs n
-row-in bs n d h = at-rows (number bs 0 4) n (drop 16 bs) d h ∙ ap rowOf (drop-drop (20 * n) 16 bs)
 
 row-back : (x : Row) (rest : List ℕ) → Wide x → rowOf (rowBytes x ++ rest) ≡ x
 row-back x rest w = λ i. record {

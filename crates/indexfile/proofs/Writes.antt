@@ -9,7 +9,8 @@ use Rattle.std.specs.Joined.{joined}
 use Rattle.std.proofs.shelf.Lists.{at-drop-more, at-drop-all, take-append-drop, length-drop}
 use Rattle.indexfile.specs.declared.row.Row.{Row}
 use Rattle.indexfile.specs.Numbers.{setAt}
-use Rattle.indexfile.specs.Files.{rowBytes, headBytes, fileOf, noRow}
+use Rattle.indexfile.specs.Files.{rowBytes, headBytes, fileOf}
+use Rattle.indexfile.specs.Written.{noRow}
 use Rattle.indexfile.proofs.Bytes.{set-on}
 
 pub length-rows : (rows : List Row) → length (joined rowBytes rows) ≡ 20 * length rows

@@ -1,16 +1,13 @@
--- Index files: which are sound, what is written, and what is read.
-use mathlib.Core.Path.{_≡_}
+-- Index files: which are sound, what is written, and what they say.
 use mathlib.Core.Bool.{Bool, true, cond, _&&_}
 use mathlib.Core.List.{List, [], _∷_, _++_}
-use Prim.Native.Nat.{ℕ, zero, suc, _+_, _*_, _^_, _<_}
+use Prim.Native.Nat.{ℕ, zero, suc, _+_, _*_}
 use lib.Dec.{leb, ltb, eqb}
-use lib.ListN.{length, drop, getD}
+use lib.ListN.{length, drop}
 use Rattle.std.specs.Joined.{joined}
 use Rattle.std.specs.declared.result.Result.{Result}
 use Rattle.std.specs.declared.result.Result.the-variants.{Ok, Err}
 use Rattle.indexfile.specs.declared.counts.Counts.{Counts}
-use Rattle.indexfile.specs.declared.refusal.ReadRefusal.{ReadRefusal}
-use Rattle.indexfile.specs.declared.refusal.ReadRefusal.the-variants.{Unsound, RowNotHeld}
 use Rattle.indexfile.specs.declared.refusal.WriteRefusal.{WriteRefusal}
 use Rattle.indexfile.specs.declared.refusal.WriteRefusal.the-variants.{UnsoundRows, ShortBuffer}
 use Rattle.indexfile.specs.declared.row.Row.{Row}
@@ -57,6 +54,7 @@ countsIn bs = record { rows = number bs 0 4; place = number bs 8 4; skipped = nu
 abbrev pub rowOf : List ℕ → Row
 rowOf bs = record { place = number bs 0 4; length = number bs 4 4; tag = number bs 8 4; «source_type» = number bs 12 2; «source_id» = number bs 14 2; time = number bs 16 4 }
 
+-- row n of a file, and all of its rows
 abbrev pub rowIn : List ℕ → ℕ → Row
 rowIn bs n = rowOf (drop (16 + 20 * n) bs)
 
@@ -72,31 +70,6 @@ rowsIn bs = rowsOf (number bs 0 4) (drop 16 bs)
 abbrev pub shaped : List ℕ → Bool
 shaped bs = leb 16 (length bs) && (eqb (number bs 4 4) 16 && (leb (number bs 0 4) 65536 && eqb (length bs) (16 + 20 * number bs 0 4)))
 
+-- a file of that shape, with sound rows
 abbrev pub soundFile : List ℕ → Bool
 soundFile bs = shaped bs && soundRows (number bs 8 4) (number bs 12 4) (rowsIn bs)
-
--- a sound file, its counts and its rows, and why they are refused
-abbrev pub reading : {X : Type 0} → List ℕ → Result X ReadRefusal → Result X ReadRefusal
-reading bs answer = cond (soundFile bs) answer (Err Unsound)
-
-abbrev pub heldRow : List ℕ → ℕ → Result Row ReadRefusal
-heldRow bs n = cond (ltb n (number bs 0 4)) (Ok (rowIn bs n)) (Err RowNotHeld)
-
--- a row whose members fit their places in the file
-pub record Wide (x : Row) : Type 0 where
-  pub place : x .place < 2 ^ 32
-  pub length : x .length < 2 ^ 32
-  pub tag : x .tag < 2 ^ 32
-  pub type : x .«source_type» < 2 ^ 16
-  pub id : x .«source_id» < 2 ^ 16
-  pub time : x .time < 2 ^ 32
-
-abbrev pub noRow : Row
-noRow = record { place = 0; length = 0; tag = 0; «source_type» = 0; «source_id» = 0; time = 0 }
-
--- a sound file that says what was written
-pub record ReadsBack (place skipped : ℕ) (rows : List Row) (bs : List ℕ) : Type 0 where
-  pub sound : soundFile bs ≡ true
-  pub counts : countsIn bs ≡ record { rows = length rows; place = place; skipped = skipped }
-  pub all : rowsIn bs ≡ rows
-  pub each : (n : ℕ) → n < length rows → rowIn bs n ≡ getD rows n noRow

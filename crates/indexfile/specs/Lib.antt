@@ -1,3 +1,5 @@
 pub mod Refusals
 pub mod Numbers
 pub mod Files
+pub mod Reading
+pub mod Written

@@ -10,6 +10,9 @@ ghost use Rattle.indexfile.specs.declared.row.Row.{Row};
 ghost use Rattle.indexfile.specs.Files.{soundRows};
 use crate::row::Row;
 
+// The most rows of a file.
+pub(crate) const MOST: usize = 65_536;
+
 // Rows that can be read one by one.
 pub(crate) trait Rows {
     ghost listed: { Self → List Row };
@@ -49,6 +52,7 @@ fn follows(end: u64, row: Row, place: u32) -> bool
         && row.place as u64 + row.length as u64 <= place as u64
 }
 
+// The argument for both: each row follows the one before, and the lengths with the skipped cells make the place.
 pub(crate) fn sound<R: Rows>(rows: &R, place: u32, skipped: u32) -> bool
     ensures { λ r. ⌜ r ≡ soundRows place skipped (R·Rows .listed (now (rows .entry))) ⌝ }
 {

@@ -5,17 +5,16 @@ ghost use Prim.Native.Nat.{ℕ, _+_, _*_, _<_, _≤_};
 ghost use lib.ListN.{length, take, drop, getD};
 ghost use Rattle.std.specs.Vec.{made};
 ghost use Rattle.indexfile.specs.Numbers.{setAt};
-ghost use Rattle.indexfile.specs.Files.{rowBytes, headBytes, fileOf, writing, Wide, noRow, ReadsBack};
+ghost use Rattle.indexfile.specs.Files.{rowBytes, headBytes, fileOf, writing};
+ghost use Rattle.indexfile.specs.Written.{Wide, noRow, ReadsBack};
 use crate::numbers::put_double;
 use crate::numbers::put_word;
 use crate::refusal::WriteRefusal;
 use crate::row::Row;
+use crate::sound::MOST;
 use crate::sound::Table;
 use crate::sound::TableRows;
 use crate::sound::sound;
-
-// The most rows of a file.
-const MOST: usize = 65_536;
 
 fn put_head(s: &mut [u8], count: u32, place: u32, skipped: u32)
     requires { ⌜ 16 ≤ length (now s) ⌝ }
@@ -53,12 +52,7 @@ fn fill(rows: &[Row], place: u32, skipped: u32, buffer: &mut [u8])
 }
 
 // Writes the rows, the place reached and the cells skipped, and says how many bytes the file has.
-pub fn write(
-    rows: &[Row],
-    place: u32,
-    skipped: u32,
-    buffer: &mut [u8],
-) -> Result<u32, WriteRefusal>
+pub fn write(rows: &[Row], place: u32, skipped: u32, buffer: &mut [u8]) -> Result<u32, WriteRefusal>
     ensures value { λ r. ⌜ (r, now (buffer .exit)) ≡ writing place skipped (now (rows .entry)) (now (buffer .entry)) ⌝ }
     ensures law { λ r. ⌜ made r (λ size. ReadsBack place skipped (now (rows .entry)) (take size (now (buffer .exit)))) ⌝ }
 {

@@ -1,4 +1,2 @@
 pub mod Walks
 pub mod Lengths
-pub mod Sets
-pub mod Rounds

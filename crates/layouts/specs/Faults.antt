@@ -4,8 +4,6 @@ use Rattle.refusals.specs.declared.Notice.{Notice}
 use Rattle.refusals.specs.Notices.{notice, nowhere}
 use Rattle.layouts.specs.declared.fault.LayoutFault.{LayoutFault}
 use Rattle.layouts.specs.declared.fault.LayoutFault.the-variants as layout
-use Rattle.layouts.specs.declared.fault.FieldFault.{FieldFault}
-use Rattle.layouts.specs.declared.fault.FieldFault.the-variants as field
 
 -- 5: no layout; 6: length; 7: Version, which is byte 13; 8: HeadControllerVersion, or HidType, where it begins
 abbrev pub layout-fault : LayoutFault → Notice
@@ -14,8 +12,3 @@ layout-fault layout.Length = nowhere 6
 layout-fault layout.Version = notice 7 13
 layout-fault (layout.HeadControllerVersion at) = notice 8 at
 layout-fault (layout.HidType at) = notice 8 at
-
--- what the body's fault tells; 13: no such field, or not a value of it
-abbrev pub field-fault : FieldFault → Notice
-field-fault (field.Body f) = layout-fault f
-field-fault field.NoField = nowhere 13

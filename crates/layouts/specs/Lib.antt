@@ -6,5 +6,4 @@ pub mod Catalogue
 pub mod Members
 pub mod Settings
 pub mod Examples
-pub mod Fields
-pub mod Set
+pub mod Located

@@ -34,36 +34,45 @@ lengthOf v altimeter =
 abbrev pub settingsLength : ℕ → Bool → Option ℕ
 settingsLength v altimeter = cond (between 1 11 v) (Some (lengthOf v altimeter)) None
 
--- byte 13
-abbrev pub version : List ℕ → ℕ
-version bs = getD bs 13 0
-
--- in 3 to 5 the length tells an altimeter's settings
-abbrev pub isAltimeter : List ℕ → Bool
-isAltimeter bs = between 3 5 (version bs) && eqb (length bs) (lengthOf (version bs) true)
-
 -- the number of k bytes that begins n bytes before the body's end
 abbrev pub back : List ℕ → ℕ → ℕ → ℕ
 back bs n k = number bs (length bs - n) k
 
+-- the members by which settings are judged: byte 13, the byte 30 before the end, and the four from 94 before the end on
+abbrev pub version : List ℕ → ℕ
+version bs = getD bs 13 0
+
+abbrev pub headControllerVersion : List ℕ → ℕ
+headControllerVersion bs = getD bs (length bs - 30) 0
+
+abbrev pub hidType : List ℕ → ℕ
+hidType bs = back bs 94 4
+
+-- in 3 to 5 the length tells an altimeter's settings
+abbrev pub altimeterFor : ℕ → ℕ → Bool
+altimeterFor n v = between 3 5 v && eqb n (lengthOf v true)
+
 -- in 3 to 5 HidType is 0x1007 exactly for an altimeter
-abbrev pub headAgrees : List ℕ → Bool
-headAgrees bs = cond (between 3 5 (version bs)) (Bool·beq (eqb (back bs 94 4) 0x1007) (isAltimeter bs)) true
+abbrev pub headAgrees : ℕ → ℕ → ℕ → Bool
+headAgrees n v hid = cond (between 3 5 v) (Bool·beq (eqb hid 0x1007) (altimeterFor n v)) true
 
--- the Version of a body that is as long as this Version says
-abbrev pub versionOf : List ℕ → Result ℕ LayoutFault
-versionOf bs =
-    andThen (check (leb 20 (length bs)) fault.Length) (λ _.
-    andThen (check (between 1 11 (version bs)) fault.Version) (λ _.
-    andThen (check (eqb (length bs) (lengthOf (version bs) false) || eqb (length bs) (lengthOf (version bs) true)) fault.Length) (λ _.
-    Ok (version bs))))
+-- the Version of n bytes that are as many as this Version says
+abbrev pub versionFor : ℕ → ℕ → Result ℕ LayoutFault
+versionFor n v =
+    andThen (check (leb 20 n) fault.Length) (λ _.
+    andThen (check (between 1 11 v) fault.Version) (λ _.
+    andThen (check (eqb n (lengthOf v false) || eqb n (lengthOf v true)) fault.Length) (λ _.
+    Ok v)))
 
--- the checks of a settings body, in their order
+-- the checks of settings in their order: length, Version, length, HeadControllerVersion, HidType
+abbrev pub settingsChecks : ℕ → ℕ → ℕ → ℕ → Result (Unit {0}) LayoutFault
+settingsChecks n v controller hid =
+    andThen (versionFor n v) (λ w.
+    andThen (check (eqb controller w) (fault.HeadControllerVersion (n - 30))) (λ _.
+    check (headAgrees n v hid) (fault.HidType (n - 94))))
+
 abbrev pub settingsBody : List ℕ → Result (Unit {0}) LayoutFault
-settingsBody bs =
-    andThen (versionOf bs) (λ v.
-    andThen (check (eqb (getD bs (length bs - 30) 0) v) (fault.HeadControllerVersion (length bs - 30))) (λ _.
-    check (headAgrees bs) (fault.HidType (length bs - 94))))
+settingsBody bs = settingsChecks (length bs) (version bs) (headControllerVersion bs) (hidType bs)
 
 -- pings have an overload counter by HidPartNumber2 and HidVersion1
 abbrev pub counterOf : List ℕ → Counter
@@ -71,4 +80,5 @@ counterOf bs = cond ((eqb (back bs 100 2) 0x1001 || eqb (back bs 100 2) 0x1071) 
 
 -- what a sound settings body says
 abbrev pub settingsOf : List ℕ → Result Settings LayoutFault
-settingsOf bs = andThen (settingsBody bs) (λ _. Ok (record { version = version bs; altimeter = isAltimeter bs; counter = counterOf bs }))
+settingsOf bs =
+    andThen (settingsBody bs) (λ _. Ok (record { version = version bs; altimeter = altimeterFor (length bs) (version bs); counter = counterOf bs }))

@@ -31,98 +31,35 @@ pub fn layout_of(data_type: u32) -> Option<Layout>
     ensures whole { λ r. ⌜ BySome r (Unit {0}) (λ l. (l .length ≡ totalOf (now (l .letters))) × (length (now (l .letters)) ≤ 100)) ⌝ }
     ensures table { λ _. ⌜ Sums ⌝ }
 {
-    let layout = match data_type {
-        0 => Layout {
-            letters: &[D, D, B, D, B, W, W, D, D, D, D, W],
-            length: 64,
-        },
-        1 => Layout {
-            letters: &[L, D, B, D, B, D, B, D, B, D, B, D, B],
-            length: 58,
-        },
-        2 => Layout {
-            letters: &[D, B, D, B, D, B],
-            length: 27,
-        },
-        3 => Layout {
-            letters: &[B, B, B, W, B, W, B],
-            length: 9,
-        },
-        4 => Layout {
-            letters: &[D, D, B, D, B],
-            length: 26,
-        },
-        5 => Layout {
-            letters: &[D, B],
-            length: 9,
-        },
-        6 => Layout {
-            letters: &[D],
-            length: 8,
-        },
-        7 => Layout {
-            letters: &[B, D, B, D, B, R(20), D, B, B],
-            length: 49,
-        },
-        8 => Layout {
-            letters: &[D, D, D, D],
-            length: 32,
-        },
-        9 => Layout {
-            letters: &[D, D],
-            length: 16,
-        },
-        10 => Layout {
-            letters: &[L, L, D, B, D, D],
-            length: 33,
-        },
-        22 => Layout {
-            letters: &[L, W, R(26)],
-            length: 32,
-        },
-        23 => Layout {
-            letters: &[F, F, F, F, F, F, L],
-            length: 28,
-        },
-        25 => Layout {
-            letters: &[D, D, D, D, D, D, D, D, B, B, B, B, W, W, W, W, R(56)],
-            length: 132,
-        },
-        1001 => Layout {
-            letters: &[D, B, D, B, D, B],
-            length: 27,
-        },
-        1002 => Layout {
-            letters: &[D, D],
-            length: 16,
-        },
-        1003 => Layout {
-            letters: &[D, B],
-            length: 9,
-        },
-        1004 => Layout {
-            letters: &[B, D, B, D, B, D, D, D, D, D, B],
-            length: 60,
-        },
-        1005 => Layout {
-            letters: &[D, B, D, B, D, B, D, D, L, D, B],
-            length: 56,
-        },
-        1006 => Layout {
-            letters: &[D, D, B, D, D, B],
-            length: 34,
-        },
-        1007 => Layout {
-            letters: &[D, B, D, B, D, B, D, B],
-            length: 36,
-        },
-        1008 => Layout {
-            letters: &[D, W, W, W, S, S],
-            length: 18,
-        },
+    let (letters, length): (&'static [Letter], usize) = match data_type {
+        0 => (&[D, D, B, D, B, W, W, D, D, D, D, W], 64),
+        1 => (&[L, D, B, D, B, D, B, D, B, D, B, D, B], 58),
+        2 => (&[D, B, D, B, D, B], 27),
+        3 => (&[B, B, B, W, B, W, B], 9),
+        4 => (&[D, D, B, D, B], 26),
+        5 => (&[D, B], 9),
+        6 => (&[D], 8),
+        7 => (&[B, D, B, D, B, R(20), D, B, B], 49),
+        8 => (&[D, D, D, D], 32),
+        9 => (&[D, D], 16),
+        10 => (&[L, L, D, B, D, D], 33),
+        22 => (&[L, W, R(26)], 32),
+        23 => (&[F, F, F, F, F, F, L], 28),
+        25 => (
+            &[D, D, D, D, D, D, D, D, B, B, B, B, W, W, W, W, R(56)],
+            132,
+        ),
+        1001 => (&[D, B, D, B, D, B], 27),
+        1002 => (&[D, D], 16),
+        1003 => (&[D, B], 9),
+        1004 => (&[B, D, B, D, B, D, D, D, D, D, B], 60),
+        1005 => (&[D, B, D, B, D, B, D, D, L, D, B], 56),
+        1006 => (&[D, D, B, D, D, B], 34),
+        1007 => (&[D, B, D, B, D, B, D, B], 36),
+        1008 => (&[D, W, W, W, S, S], 18),
         _ => return None,
     };
-    Some(layout)
+    Some(Layout { letters, length })
 }
 
 pub(crate) fn fixed_layout(data_type: u32, body: &[u8]) -> Result<Layout, LayoutFault>

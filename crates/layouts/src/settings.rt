@@ -8,7 +8,7 @@ ghost use Rattle.layouts.specs.Checks.{sound};
 ghost use Rattle.layouts.specs.Examples.{Examples};
 ghost use Rattle.layouts.specs.Letters.{total};
 ghost use Rattle.layouts.specs.Members.{settingsLetters};
-ghost use Rattle.layouts.specs.Settings.{settingsLength, isAltimeter, headAgrees, counterOf, versionOf, settingsBody, settingsOf};
+ghost use Rattle.layouts.specs.Settings.{settingsLength, altimeterFor, headAgrees, hidType, counterOf, version as versionOf, versionFor, settingsBody, settingsOf};
 use crate::fault::LayoutFault;
 use crate::numbers::double;
 use crate::numbers::word;
@@ -52,7 +52,7 @@ pub fn settings_length(version: u8, altimeter: bool) -> Option<usize>
 // In versions 3 to 5 the length tells an altimeter's settings.
 fn is_altimeter(body: &[u8]) -> bool
     requires { ⌜ 20 ≤ length (now body) ⌝ }
-    ensures { λ r. ⌜ r ≡ isAltimeter (now (body .entry)) ⌝ }
+    ensures { λ r. ⌜ r ≡ altimeterFor (length (now (body .entry))) (versionOf (now (body .entry))) ⌝ }
 {
     match body[13] {
         3..=4 => body.len() == 204,
@@ -64,7 +64,7 @@ fn is_altimeter(body: &[u8]) -> bool
 // In versions 3 to 5 HidType is 0x1007 exactly for an altimeter.
 fn head_agrees(body: &[u8]) -> bool
     requires { ⌜ 202 ≤ length (now body) ⌝ }
-    ensures { λ r. ⌜ r ≡ headAgrees (now (body .entry)) ⌝ }
+    ensures { λ r. ⌜ r ≡ headAgrees (length (now (body .entry))) (versionOf (now (body .entry))) (hidType (now (body .entry))) ⌝ }
 {
     match body[13] {
         3..=5 => (double(body, body.len() - 94) == 0x1007) == is_altimeter(body),
@@ -86,7 +86,7 @@ fn counter_of(body: &[u8]) -> Counter
 
 // The Version of a body that is as long as this Version says.
 fn version_of(body: &[u8]) -> Result<u8, LayoutFault>
-    ensures value { λ r. ⌜ r ≡ versionOf (now (body .entry)) ⌝ }
+    ensures value { λ r. ⌜ r ≡ versionFor (length (now (body .entry))) (versionOf (now (body .entry))) ⌝ }
     ensures long { λ r. ⌜ made r (λ _. 202 ≤ length (now (body .entry))) ⌝ }
 {
     if body.len() < 20 {

@@ -3,7 +3,7 @@ use mathlib.Core.Path.{refl, _∙_}
 use Prim.Native.Nat.{ℕ, _<_}
 use native.Mathlib.Omega.{arith}
 use lib.ListN.{getD}
-use Rattle.indexfile.specs.Files.{Wide, noRow}
+use Rattle.indexfile.specs.Written.{Wide, noRow}
 use Rattle.indexfile.proofs.Writes.{rows-more, rows-all}
 use Rattle.indexfile.proofs.write.fill.Needs as need
 

@@ -2,7 +2,8 @@ use mathlib.Core.Path.{_≡_}
 use Prim.Native.Nat.{ℕ, _+_, _*_, _<_}
 use lib.ListN.{drop, getD}
 use Rattle.std.specs.Joined.{joined}
-use Rattle.indexfile.specs.Files.{rowBytes, Wide, noRow}
+use Rattle.indexfile.specs.Files.{rowBytes}
+use Rattle.indexfile.specs.Written.{Wide, noRow}
 use Rattle.indexfile.specs.Numbers.{setAt}
 use Rattle.indexfile.proofs.write.fill.Given as given
 

@@ -12,8 +12,8 @@ returns c =
     let s = c .args .s .now in
     then-set s (c .put-double-3 .last .s) _ 0 12 three (bytesOf 4 (c .args .skipped))
     (
-      then-set s (c .put-double-2 .last .s) _ 0 8 two (bytesOf 4 (c .args .place))
-      (then-set s (c .put-double .last .s) _ 0 4 one (bytesOf 4 16) (c .put-double .ensures) (c .put-double-2 .ensures) (omega arith) (omega arith))
-      (c .put-double-3 .ensures) (omega arith) (omega arith)
+    then-set s (c .put-double-2 .last .s) _ 0 8 two (bytesOf 4 (c .args .place))
+    (then-set s (c .put-double .last .s) _ 0 4 one (bytesOf 4 16) (c .put-double .ensures) (c .put-double-2 .ensures) (omega arith) (omega arith))
+    (c .put-double-3 .ensures) (omega arith) (omega arith)
     )
     (c .put-double-4 .ensures) (omega arith) (omega arith)

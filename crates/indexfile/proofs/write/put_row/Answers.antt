@@ -22,5 +22,5 @@ returns c =
     let t = then-set s (c .put-word .last .s) _ at (at + 14) four (bytesOf 2 (x .«source_id»)) r (c .put-word-2 .ensures) (omega arith) (omega arith) in
     record {
       bytes = then-set s (c .put-word-2 .last .s) _ at (at + 16) five (bytesOf 4 (x .time)) t (c .put-double-4 .ensures) (omega arith) (omega arith);
-      wide = record { place = search needs; length = search needs; tag = search needs; type = search needs; id = search needs; time = search needs };
+      wide = search needs;
     }

@@ -1,0 +1,229 @@
+// The answer lines.
+use crate::command::counter;
+use crate::command::data_type;
+use crate::command::number;
+use crate::command::signed;
+use crate::hex::bytes_of;
+use crate::hex::push_hex;
+use bodies::fault::BodyFault;
+use bodies::fault::BodyFaultRefusal;
+use bodies::judge::judge_body;
+use bodies::user::UserParts;
+use bodies::user::read_user;
+use fields::fault::FieldFault;
+use fields::fault::FieldFaultRefusal;
+use fields::read::Field;
+use fields::read::field_place;
+use fields::read::read_field;
+use fields::set::set_field;
+use layouts::settings::Counter;
+use packets::multi::read_multi;
+use packets::packet::Content;
+use packets::packet::PacketParts;
+use packets::pair::read_pair;
+use packets::profile::OnePacket;
+use packets::profile::read_profile;
+use packets::sonar::SonarParts;
+use packets::sonar::read_sonar;
+use refusals::Refusal;
+use std::alloc::AllocError;
+use std::alloc::Global;
+
+fn refused(heap: Global, fault: &impl Refusal) -> Result<String, AllocError> {
+    let number = fault.number();
+    let place = fault.place();
+    format!(heap, "refused {number} {place}")
+}
+
+fn judge_line(heap: Global, t: u16, body: &[u8], counter: Counter) -> Result<String, AllocError> {
+    match judge_body(t, counter, body) {
+        Ok(()) => String::from_str(heap, "sound"),
+        Err(fault) => {
+            let number = fault.number();
+            let place = fault.place();
+            format!(heap, "{number} {place}")
+        }
+    }
+}
+
+// Parts that follow one another, with the place that was reached.
+#[derive(Drop)]
+struct Parts {
+    heap: Global,
+    text: String,
+    at: usize,
+}
+
+impl Parts {
+    fn push(&mut self, name: &str, part: &[u8]) -> Result<(), AllocError> {
+        let at = self.at;
+        let end = at.saturating_add(part.len());
+        let span = format!(self.heap, " {name}={at}..{end}")?;
+        self.at = end;
+        self.text.push_str(span.as_str())
+    }
+
+    fn skip_zero(&mut self) {
+        self.at = self.at.saturating_add(1);
+    }
+
+    fn push_counter(
+        &mut self,
+        name: &str,
+        part: &[u8],
+        counter: Counter,
+    ) -> Result<(), AllocError> {
+        match counter {
+            Counter::With => self.push(name, part),
+            Counter::Without => Ok(()),
+        }
+    }
+
+    fn push_packet(
+        &mut self,
+        header: &str,
+        p: PacketParts<'_>,
+        counter: Counter,
+    ) -> Result<(), AllocError> {
+        self.push(header, p.header)?;
+        match p.packet.content {
+            Content::Sonar => {
+                self.push("sonar", p.data)?;
+                self.push_counter("counter", p.counters, counter)
+            }
+            Content::Profile => self.push("profile", p.data),
+        }
+    }
+}
+
+fn push_user(parts: &mut Parts, user: UserParts<'_>) -> Result<(), AllocError> {
+    parts.push("Name", user.name)?;
+    parts.skip_zero();
+    parts.push("Format", user.format)?;
+    parts.skip_zero();
+    parts.push("Data", user.data)
+}
+
+fn push_sonar(
+    parts: &mut Parts,
+    sonar: SonarParts<'_>,
+    counter: Counter,
+) -> Result<(), AllocError> {
+    parts.push("extra", sonar.extra_header)?;
+    parts.push("data", sonar.data)?;
+    parts.push_counter("counter", sonar.counter, counter)
+}
+
+fn push_pings(parts: &mut Parts, multi: OnePacket<'_>, counter: Counter) -> Result<(), AllocError> {
+    parts.push("extra", multi.extra_header)?;
+    parts.push("header", multi.packet.header)?;
+    parts.push("pings", multi.packet.data)?;
+    parts.push_counter("counters", multi.packet.counters, counter)
+}
+
+// The parts of a sound body.
+fn push_parts(parts: &mut Parts, t: u16, body: &[u8], counter: Counter) -> Result<(), AllocError> {
+    match t {
+        11 => match read_user(body) {
+            Ok(user) => push_user(parts, user),
+            Err(_) => Ok(()),
+        },
+        12 => match read_sonar(body, counter) {
+            Ok(sonar) => push_sonar(parts, sonar, counter),
+            Err(_) => Ok(()),
+        },
+        13 => match read_profile(body) {
+            Ok(one) => {
+                parts.push("extra", one.extra_header)?;
+                parts.push_packet("header", one.packet, counter)
+            }
+            Err(_) => Ok(()),
+        },
+        14 => match read_pair(body, counter) {
+            Ok(two) => {
+                parts.push("extra", two.extra_header)?;
+                parts.push_packet("header1", two.first, counter)?;
+                parts.push_packet("header2", two.second, counter)
+            }
+            Err(_) => Ok(()),
+        },
+        21 => match read_multi(body, counter) {
+            Ok(multi) => push_pings(parts, multi, counter),
+            Err(_) => Ok(()),
+        },
+        _ => parts.text.push(' '),
+    }
+}
+
+fn parts_line(heap: Global, t: u16, body: &[u8], counter: Counter) -> Result<String, AllocError> {
+    if let Err(fault) = judge_body(t, counter, body) {
+        return refused(heap, &fault);
+    }
+    let text = String::from_str(heap, "ok")?;
+    let mut parts = Parts { heap, text, at: 0 };
+    push_parts(&mut parts, t, body, counter)?;
+    Ok(parts.text)
+}
+
+fn field_line(heap: Global, t: u16, body: &[u8], n: usize) -> Result<String, AllocError> {
+    match read_field(t, body, n) {
+        Ok(Field::Number(x)) => format!(heap, "ok number {x}"),
+        Ok(Field::Signed(x)) => format!(heap, "ok signed {x}"),
+        Ok(Field::Run(run)) => {
+            let mut text = String::from_str(heap, "ok run ")?;
+            push_hex(&mut text, run)?;
+            if let Ok((at, _)) = field_place(t, body, n) {
+                let end = at.saturating_add(run.len());
+                text.push_str(format!(heap, " {at} {end}")?.as_str())?;
+            }
+            Ok(text)
+        }
+        Err(fault) => refused(heap, &fault),
+    }
+}
+
+fn value_of<'a>(sort: Option<&str>, word: Option<&str>, run: &'a [u8]) -> Field<'a> {
+    match sort {
+        Some("signed") => Field::Signed(signed(word).unwrap_or(0)),
+        Some("run") => Field::Run(run),
+        _ => Field::Number(number(word).unwrap_or(0)),
+    }
+}
+
+fn set_line(
+    heap: Global,
+    t: u16,
+    body: &mut [u8],
+    n: usize,
+    value: Field<'_>,
+) -> Result<String, AllocError> {
+    let mut text = match set_field(t, body, n, value) {
+        Ok(()) => String::from_str(heap, "ok")?,
+        Err(fault) => refused(heap, &fault)?,
+    };
+    text.push(' ')?;
+    push_hex(&mut text, body)?;
+    Ok(text)
+}
+
+// What a command answers, if it is one.
+pub fn answer_line(heap: Global, line: &str) -> Result<String, AllocError> {
+    let mut words = line.split_whitespace();
+    let name = words.next();
+    let t = data_type(words.next()).unwrap_or(0);
+    let mut body = bytes_of(heap, words.next().unwrap_or("-"))?;
+    let last = words.next();
+    let n = number(last).unwrap_or(0) as usize;
+    match name {
+        Some("judge") => judge_line(heap, t, &body, counter(last)),
+        Some("parts") => parts_line(heap, t, &body, counter(last)),
+        Some("field") => field_line(heap, t, &body, n),
+        Some("set") => {
+            let sort = words.next();
+            let word = words.next();
+            let run = bytes_of(heap, word.unwrap_or("-"))?;
+            set_line(heap, t, &mut body, n, value_of(sort, word, &run))
+        }
+        _ => String::from_str(heap, "unknown"),
+    }
+}
