@@ -2,6 +2,10 @@
 use Prim.Native.Nat.{ℕ}
 use Rattle.recording.specs.declared.PastEnd.{PastEnd}
 use Rattle.recording.specs.declared.refusal.Notice.{Notice}
+use Rattle.recording.specs.declared.extents.BadExtent.{BadExtent}
+use Rattle.recording.specs.declared.extents.BadExtent.the-variants.{TooLong, TooMany}
+use Rattle.recording.specs.declared.stretches.MarkRefusal.{MarkRefusal}
+use Rattle.recording.specs.declared.stretches.MarkRefusal.the-variants as mark
 
 -- a refusal that concerns no place in particular
 abbrev pub nowhere : ℕ → Notice
@@ -10,3 +14,14 @@ nowhere n = record { number = n; place = 0 }
 -- 2: there is no cell at the place
 abbrev pub past-end : PastEnd → Notice
 past-end e = nowhere 2
+
+-- 16: a row that adds no cells, at its number
+abbrev pub bad-extent : BadExtent → Notice
+bad-extent (TooLong row) = record { number = 16; place = row }
+bad-extent (TooMany row) = record { number = 16; place = row }
+
+-- 14: the stretch is empty or passes the end; 23: no more can be marked
+abbrev pub mark-refusal : MarkRefusal → Notice
+mark-refusal mark.Empty = nowhere 14
+mark-refusal mark.PastEnd = nowhere 14
+mark-refusal mark.Full = nowhere 23
