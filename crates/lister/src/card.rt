@@ -5,6 +5,7 @@ use crate::list_store;
 use crate::print::print_listed;
 use crate::print::read_input;
 use crate::refusal_line;
+use crate::words::Word;
 use recording::extents::BadExtentRefusal;
 use recording::extents::Extent;
 use recording::extents::Extents;
@@ -26,32 +27,13 @@ struct Named {
     lost: Vec<Stretch>,
 }
 
-// Two numbers with a colon between them.
-fn numbers(text: &str) -> Option<(u32, u32)> {
-    let (a, b) = text.split_once(':')?;
-    let a = a.parse::<u32>().ok()?;
-    let b = b.parse::<u32>().ok()?;
-    Some((a, b))
-}
-
 impl Named {
-    // Takes up a word, `extent=PLACE:LENGTH` or `lost=FIRST:COUNT`. False: it is neither.
-    fn add(&mut self, word: &str) -> io::Result<bool> {
-        if let Some(rest) = word.strip_prefix("extent=") {
-            let Some((place, length)) = numbers(rest) else {
-                return Ok(false);
-            };
-            self.rows.push(Extent { place, length })?;
-            return Ok(true);
+    fn add(&mut self, word: Word) -> io::Result<()> {
+        match word {
+            Word::Extent(row) => self.rows.push(row)?,
+            Word::Lost(stretch) => self.lost.push(stretch)?,
         }
-        let Some(rest) = word.strip_prefix("lost=") else {
-            return Ok(false);
-        };
-        let Some((first, count)) = numbers(rest) else {
-            return Ok(false);
-        };
-        self.lost.push(Stretch { first, count })?;
-        Ok(true)
+        Ok(())
     }
 }
 
@@ -80,20 +62,23 @@ pub fn print_card(rt: &LibcRuntime) -> io::Result<()> {
         rows: Vec::new(rt.alloc()),
         lost: Vec::new(rt.alloc()),
     };
-    for word in env::args(rt)?.skip(1) {
-        if !named.add(&word)? {
-            return println!(rt, "unknown {word}");
-        }
+    for text in env::args(rt)?.skip(1) {
+        let Some(word) = Word::read(text.as_bytes()) else {
+            return println!(rt, "unknown {text}");
+        };
+        named.add(word)?;
     }
     let image = read_input(rt)?;
     if image.len() > MOST {
         return print_listed(rt, Err(ListError::TooLong));
     }
     if named.rows.is_empty() {
-        named.rows.push(Extent {
-            place: 0,
-            length: image.len() as u32,
-        })?;
+        named
+            .rows
+            .push(Extent {
+                place: 0,
+                length: image.len() as u32,
+            })?;
     }
     print_named(rt, &image, &named)
 }

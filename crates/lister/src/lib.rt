@@ -24,6 +24,7 @@ use std::alloc::Global;
 
 pub mod card;
 pub mod print;
+pub mod words;
 
 // The most cells that are listed.
 pub const MOST: usize = 32_768;

@@ -7,26 +7,24 @@ use native.Mathlib.Omega.{arith}
 use lib.Dec.{leb, ltb}
 use lib.ListN.{length, drop, getD}
 use Rattle.std.specs.Joined.{joined}
+use Rattle.std.specs.Results.{andOther}
 use Rattle.std.proofs.shelf.Lists.{at-drop-more, take-all}
-use Rattle.std.proofs.shelf.Tests.{ltb-true, ltb-false, leb-true, leb-false, lt-ltb, le-ltb, le-leb, lt-leb, cond-true}
+use Rattle.std.proofs.shelf.Tests.{ltb-true, ltb-false, leb-true, leb-false, le-leb, cond-true}
 use Rattle.std.specs.declared.result.Result.{Result}
 use Rattle.std.specs.declared.result.Result.the-variants.{Ok, Err}
 use Rattle.recording.specs.declared.extents.Extent.{Extent}
 use Rattle.recording.specs.declared.extents.BadExtent.{BadExtent}
 use Rattle.recording.specs.declared.extents.BadExtent.the-variants.{TooLong, TooMany}
-use Rattle.recording.specs.Pieces.{run, added, piece, pieces, firstBad}
+use Rattle.recording.specs.Pieces.{run, added, piece, judged, firstBad}
 use Rattle.recording.specs.Checks.{lengthAt, Sound, Checked}
 use Rattle.recording.proofs.Rows.{noExtent}
 
 -- a row that adds its cells is passed, and any other is named
-pub bad-more : (rows : List Extent) (i : ℕ) → i < length rows → i < 64 → lengthAt rows i ≤ 33554431 → firstBad (i + 1) (drop (i + 1) rows) ≡ firstBad i (drop i rows)
-bad-more rows i h l s = sym (at-drop-more (firstBad i) rows i noExtent h ∙ rw (lt-ltb i 64 l, le-leb (lengthAt rows i) 33554431 s))
+pub bad-more : (rows : List Extent) (i : ℕ) (u : Unit {0}) → i < length rows → Ok u ≡ judged i (getD rows i noExtent) → firstBad (i + 1) (drop (i + 1) rows) ≡ firstBad i (drop i rows)
+bad-more rows i u h e = ap (λ r. andOther r (firstBad (i + 1) (drop (i + 1) rows))) e ∙ sym (at-drop-more (firstBad i) rows i noExtent h)
 
-pub bad-long : (rows : List Extent) (i : ℕ) → i < length rows → i < 64 → 33554431 < lengthAt rows i → Err (TooLong i) ≡ firstBad i (drop i rows)
-bad-long rows i h l s = sym (at-drop-more (firstBad i) rows i noExtent h ∙ rw (lt-ltb i 64 l, lt-leb (lengthAt rows i) 33554431 s))
-
-pub bad-many : (rows : List Extent) (i : ℕ) → i < length rows → 64 ≤ i → Err (TooMany i) ≡ firstBad i (drop i rows)
-bad-many rows i h l = sym (at-drop-more (firstBad i) rows i noExtent h ∙ rw (le-ltb i 64 l))
+pub bad-here : (rows : List Extent) (i : ℕ) (b : BadExtent) → i < length rows → Err b ≡ judged i (getD rows i noExtent) → Err b ≡ firstBad i (drop i rows)
+bad-here rows i b h e = ap (λ r. andOther r (firstBad (i + 1) (drop (i + 1) rows))) e ∙ sym (at-drop-more (firstBad i) rows i noExtent h)
 
 -- the first n rows, numbered from i on, add their cells
 abbrev Before : ℕ → List Extent → ℕ → Type 0
@@ -48,12 +46,12 @@ found-more i e es (Err (TooMany n)) l s (k, p, h, b, f) = (suc k, omega arith, o
 
 found : (i : ℕ) (rows : List Extent) → Found i rows (firstBad i rows)
 found i [] = λ j h. absurd (omega arith)
-found i (e ∷ es) = by (found (i + 1) es) (ltb i 64) (leb (e .length) 33554431) refl refl
+found i (e ∷ es) = by (found (i + 1) es) (leb 64 i) (ltb 33554431 (e .length)) refl refl
   where
-    by : Found (i + 1) es (firstBad (i + 1) es) → (p q : Bool) → ltb i 64 ≡ p → leb (e .length) 33554431 ≡ q → Found i (e ∷ es) (cond p (cond q (firstBad (i + 1) es) (Err (TooLong i))) (Err (TooMany i)))
-    by rest true true l s = found-more i e es (firstBad (i + 1) es) (ltb-true i 64 l) (leb-true (e .length) 33554431 s) rest
-    by rest true false l s = (0, omega arith, omega arith, λ j h. absurd (omega arith), ltb-true i 64 l, leb-false (e .length) 33554431 s)
-    by rest false q l s = (0, omega arith, omega arith, λ j h. absurd (omega arith), ltb-false i 64 l)
+    by : Found (i + 1) es (firstBad (i + 1) es) → (p q : Bool) → leb 64 i ≡ p → ltb 33554431 (e .length) ≡ q → Found i (e ∷ es) (andOther {T = Unit {0}} (cond p (Err (TooMany i)) (cond q (Err (TooLong i)) (Ok tt))) (firstBad (i + 1) es))
+    by rest true q l s = (0, omega arith, omega arith, λ j h. absurd (omega arith), leb-true 64 i l)
+    by rest false true l s = (0, omega arith, omega arith, λ j h. absurd (omega arith), leb-false 64 i l, ltb-true 33554431 (e .length) s)
+    by rest false false l s = found-more i e es (firstBad (i + 1) es) (leb-false 64 i l) (ltb-false 33554431 (e .length) s) rest
 
 sound : (rows : List Extent) (n : ℕ) → Before 0 rows n → Sound rows n
 sound rows zero b = (omega arith, λ k h. absurd (omega arith))

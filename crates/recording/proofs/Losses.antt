@@ -1,20 +1,20 @@
 -- Facts on stretches that are lost.
 use mathlib.Core.Path.{_≡_, refl, sym, ap, _∙_}
 use mathlib.Core.List.{List, [], _∷_, _++_}
-use mathlib.Core.Bool.{Bool, true, false, cond, _&&_, _||_}
+use mathlib.Core.Bool.{Bool, true, false, cond, _||_}
 use mathlib.Core.Logic.{_⊎_, ⊎-elim}
 use Prim.Native.Nat.{ℕ, zero, suc, _+_, _-_, _≤_, _<_, min, max}
 use native.Mathlib.Omega.{arith}
 use native.Mathlib.Nat.{not-suc-le-zero, le-of-suc-le-suc}
-use lib.Dec.{leb, ltb, eqb}
-use lib.ListN.{length, take, drop, getD}
+use lib.Dec.{ltb}
+use lib.ListN.{length, drop, getD}
 use Rattle.std.proofs.shelf.Lists.{at-drop-more}
-use Rattle.std.proofs.shelf.Tests.{or-cases, or-parts, or-from, or-left, or-right, and-parts, and-from, and-left, and-right, ltb-true, ltb-false, leb-true, le-leb, lt-leb, lt-ltb, le-ltb, cases-bool, cases-lt, ne-eqb}
+use Rattle.std.proofs.shelf.Tests.{or-cases, or-parts, or-from, or-left, or-right, and-from, and-left, and-right, ltb-true, ltb-false, le-leb, lt-leb, lt-ltb, le-ltb, cases-lt, ne-eqb}
 use Rattle.std.specs.declared.result.Result.{Result}
 use Rattle.std.specs.declared.result.Result.the-variants.{Ok, Err}
 use Rattle.recording.specs.declared.PastEnd.{PastEnd}
 use Rattle.recording.specs.declared.Cell.{Cell}
-use Rattle.recording.specs.declared.Cell.the-variants.{Byte, Lost}
+use Rattle.recording.specs.declared.Cell.the-variants.{Lost}
 use Rattle.recording.specs.declared.stretches.Stretch.{Stretch}
 use Rattle.recording.specs.declared.stretches.MarkRefusal.the-variants as mark
 use Rattle.recording.specs.Cells.{cellAt, isByte, wholeFrom}

@@ -1,16 +1,14 @@
 -- Facts on rows and the cells that they add.
 use mathlib.Core.Path.{_≡_, refl, sym, ap, _∙_}
-use mathlib.Core.List.{List, [], _∷_, _++_}
-use mathlib.Core.Bool.{Bool, true, false, cond}
-use Prim.Native.Nat.{ℕ, zero, suc, _+_, _-_, _*_, _≤_, _<_, min}
+use mathlib.Core.List.{List, [], _∷_}
+use mathlib.Core.Bool.{true, false, cond}
+use Prim.Native.Nat.{ℕ, zero, suc, _+_, _-_, _≤_, _<_, min}
 use native.Mathlib.Omega.{arith}
 use native.Mathlib.Nat.{not-suc-le-zero, le-of-suc-le-suc}
-use lib.ListN.{length, take, drop, getD, length-append}
+use lib.ListN.{length, drop, getD, length-append}
 use Rattle.std.specs.Joined.{joined}
 use Rattle.std.proofs.shelf.Lists.{at-drop-more}
-use Rattle.std.specs.declared.result.Result.{Result}
-use Rattle.std.specs.declared.result.Result.the-variants.{Ok, Err}
-use Rattle.recording.specs.declared.Cell.{Cell}
+use Rattle.std.specs.declared.result.Result.the-variants.{Ok}
 use Rattle.recording.specs.declared.Cell.the-variants.{Byte, Lost}
 use Rattle.recording.specs.declared.extents.Extent.{Extent}
 use Rattle.recording.specs.Cells.{cellAt, isByte, wholeFrom, bytesOnly}

@@ -1,5 +1,5 @@
 -- A recording in pieces: rows that each name a run of an image.
-use mathlib.Core.List.{List, [], _∷_, _++_}
+use mathlib.Core.List.{List, [], _∷_}
 use mathlib.Core.Bool.{cond}
 use mathlib.Core.Path.{_≡_, refl, ap}
 use Prim.Native.Nat.{ℕ, zero, suc, _+_, _*_, _≤_}
@@ -7,6 +7,7 @@ use native.Mathlib.Omega.{arith}
 use lib.Dec.{leb, ltb}
 use lib.ListN.{length, take, length-take, length-append}
 use Rattle.std.specs.Joined.{joined}
+use Rattle.std.specs.Results.{andOther}
 use Rattle.std.proofs.shelf.Tests.{cond-both, leb-true}
 use Rattle.std.specs.declared.result.Result.{Result}
 use Rattle.std.specs.declared.result.Result.the-variants.{Ok, Err}
@@ -39,10 +40,14 @@ piece image e = run image (e .place) (added e)
 abbrev pub pieces : List ℕ → List Extent → List Cell
 pieces image rows = joined (piece image) (take 64 rows)
 
--- the first row that adds no cells, of rows that are numbered from i on
+-- what is said of a row of this number
+abbrev pub judged : ℕ → Extent → Result (Unit {0}) BadExtent
+judged row e = cond (leb 64 row) (Err (TooMany row)) (cond (ltb 33554431 (e .length)) (Err (TooLong row)) (Ok tt))
+
+-- what is said of the first row that adds no cells, of rows that are numbered from i on
 abbrev pub firstBad : ℕ → List Extent → Result (Unit {0}) BadExtent
 firstBad i [] = Ok tt
-firstBad i (e ∷ es) = cond (ltb i 64) (cond (leb (e .length) 33554431) (firstBad (i + 1) es) (Err (TooLong i))) (Err (TooMany i))
+firstBad i (e ∷ es) = andOther (judged i e) (firstBad (i + 1) es)
 
 pub length-run : (image : List ℕ) (place count : ℕ) → length (run image place count) ≡ count
 length-run image place zero = refl

@@ -4,7 +4,7 @@ ghost use Prim.Native.Nat.{_+_};
 ghost use lib.ListN.{take};
 ghost use denote.Ref.{now};
 ghost use Rattle.recording.specs.Cells.{wholeFrom, bytesOnly};
-ghost use Rattle.recording.specs.Pieces.{cellIn, added, pieces, firstBad, pieces-bounded};
+ghost use Rattle.recording.specs.Pieces.{cellIn, added, pieces, judged, firstBad, pieces-bounded};
 ghost use Rattle.recording.specs.Checks.{Checked};
 ghost use Rattle.recording.specs.Refusals.{bad-extent};
 use crate::Cell;
@@ -52,13 +52,30 @@ impl Extent {
             0
         }
     }
+
+    // Whether the row, of this number, adds all its cells.
+    fn judge(&self, row: usize) -> Result<(), BadExtent>
+        ensures { λ r. ⌜ r ≡ judged row (now (self .entry)) ⌝ }
+    {
+        if row >= MOST {
+            return Err(BadExtent::TooMany(row));
+        }
+        if self.length > LONGEST {
+            return Err(BadExtent::TooLong(row));
+        }
+        Ok(())
+    }
 }
 
 // The rows that may add cells.
 fn used(rows: &[Extent]) -> &[Extent]
     ensures { λ r. ⌜ now r ≡ take 64 (now (rows .entry)) ⌝ }
 {
-    if rows.len() > MOST { &rows[..MOST] } else { rows }
+    if rows.len() > MOST {
+        &rows[..MOST]
+    } else {
+        rows
+    }
 }
 
 fn cell_in(image: &[u8], at: usize) -> Cell
@@ -81,6 +98,7 @@ fn reaches(image: &[u8], place: u32, skip: u32, count: u32) -> bool
 impl<'i, 'r> Extents<'i, 'r> {
     pub fn new(image: &'i [u8], rows: &'r [Extent]) -> Extents<'i, 'r>
         ensures cells { λ r. ⌜ pieces (now (r .image)) (now (r .rows)) ≡ pieces (now (image .entry)) (now (rows .entry)) ⌝ }
+        ensures image { λ r. ⌜ now (r .image) ≡ now (image .entry) ⌝ }
         ensures rows { λ r. ⌜ now (r .rows) ≡ now (rows .entry) ⌝ }
     {
         Extents { image, rows }
@@ -93,11 +111,8 @@ impl<'i, 'r> Extents<'i, 'r> {
     {
         let rows = self.rows;
         for (i, row) in rows.iter().enumerate() {
-            if i >= MOST {
-                return Err(BadExtent::TooMany(i));
-            }
-            if row.length > LONGEST {
-                return Err(BadExtent::TooLong(i));
+            if let Err(bad) = row.judge(i) {
+                return Err(bad);
             }
         }
         Ok(())

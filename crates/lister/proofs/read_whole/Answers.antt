@@ -1,4 +1,4 @@
-use mathlib.Core.Path.{_≡_, sym, ap, subst, _∙_}
+use mathlib.Core.Path.{sym, ap, subst}
 use Rattle.index.specs.Indexes.{at, progress}
 use Rattle.lister.specs.Listed.{Ends}
 use Rattle.lister.proofs.ToTheEnd.{reads-all}

@@ -1,10 +1,10 @@
 use borrow.Author.Needs.{needs}
 use mathlib.Core.Path.{_≡_, refl, sym, ap, _∙_}
-use Prim.Native.Nat.{_+_, _<_, _≤_}
+use Prim.Native.Nat.{_+_, _≤_}
 use native.Mathlib.Omega.{arith}
 use lib.ListN.{length, length-take}
 use Rattle.std.proofs.shelf.Lists.{take-more-set}
-use Rattle.std.specs.declared.result.Result.the-variants.{Ok, Err}
+use Rattle.std.specs.declared.result.Result.the-variants.{Ok}
 use Rattle.recording.specs.declared.stretches.Stretch.{Stretch}
 use Rattle.recording.specs.Marks.{marks}
 use Rattle.recording.proofs.Losses.{mark-more, mark-full, mark-loses}
@@ -17,9 +17,9 @@ returns-then-self-rows g c =
     let l : length (x .rows) ≡ 64 = search needs in
     record {
       marks = sym (mark-full (length (g .S·Store .cells (x .below))) (marks x) s (omega arith) (omega arith) (omega (arith, length-take (x .used) (x .rows))));
-      below = refl;
-      refused = λ e. refl;
-      loses = refl;
+      below = search needs;
+      refused = λ e. search needs;
+      loses = search needs;
     }
 
 pub returns : need.returns
