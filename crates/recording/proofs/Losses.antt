@@ -45,7 +45,7 @@ at-losing ss place (c ∷ cs) zero j e =
     unless (lostAt ss place) c ∙ ap {A = ℕ} {B = Result Cell PastEnd} (λ p. cond (lostAt ss p) (Ok Lost) (Ok c)) f
 at-losing ss place (c ∷ cs) (suc k) j e = at-losing ss (suc place) cs k j (omega arith)
 
-pub at-without : (ss : List Stretch) (cs : List Cell) (k : ℕ) → cellAt (without ss cs) k ≡ cond (lostAt ss k) (lose (cellAt cs k)) (cellAt cs k)
+at-without : (ss : List Stretch) (cs : List Cell) (k : ℕ) → cellAt (without ss cs) k ≡ cond (lostAt ss k) (lose (cellAt cs k)) (cellAt cs k)
 at-without ss cs k = at-losing ss 0 cs k k (omega arith)
 
 pub lost-at : (ss : List Stretch) (cs : List Cell) (k : ℕ) → lostAt ss k ≡ true → lose (cellAt cs k) ≡ cellAt (without ss cs) k
@@ -69,7 +69,7 @@ untouched s a n k e l u =
     let m : min (a + n) (s .first + s .count) ≤ max a (s .first) = ltb-false _ _ e in
     ⊎-elim (λ lt. and-left _ _ (lt-leb (s .first) k lt)) (λ ge. and-right _ _ (le-ltb k (s .first + s .count) (omega arith))) (cases-lt k (s .first))
 
-pub met : (ss : List Stretch) (a n : ℕ) → anyOf (λ s. meets s a n) ss ≡ true → (k : ℕ) × (a ≤ k) × (k < a + n) × (lostAt ss k ≡ true)
+met : (ss : List Stretch) (a n : ℕ) → anyOf (λ s. meets s a n) ss ≡ true → (k : ℕ) × (a ≤ k) × (k < a + n) × (lostAt ss k ≡ true)
 met [] a n e = let z : _≡_ {A = ℕ} 0 1 = cc in absurd (omega arith)
 met (s ∷ ss) a n e =
     ⊎-elim
@@ -77,7 +77,7 @@ met (s ∷ ss) a n e =
     (λ t. let r = met ss a n t in (r .0, r .1, r .2, or-right _ _ (r .3)))
     (or-cases (meets s a n) (anyOf (λ s. meets s a n) ss) e)
 
-pub unmet : (ss : List Stretch) (a n k : ℕ) → anyOf (λ s. meets s a n) ss ≡ false → a ≤ k → k < a + n → lostAt ss k ≡ false
+unmet : (ss : List Stretch) (a n k : ℕ) → anyOf (λ s. meets s a n) ss ≡ false → a ≤ k → k < a + n → lostAt ss k ≡ false
 unmet [] a n k e l u = refl
 unmet (s ∷ ss) a n k e l u =
     let p = or-parts (meets s a n) (anyOf (λ s. meets s a n) ss) e in
