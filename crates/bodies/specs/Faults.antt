@@ -30,6 +30,7 @@ abbrev pub wrong-in : Wrong → Notice
 wrong-in (wrong.Body f) = body-fault f
 wrong-in wrong.NoSettings = nowhere 22
 
+-- a tuple's fault tells what is wrong with it
 abbrev pub tuple-fault : TupleFault → Notice
 tuple-fault f = wrong-in (f .wrong)
 

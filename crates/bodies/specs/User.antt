@@ -45,11 +45,13 @@ cutOf bs = mapped (λ i. (take i bs, drop (i + 1) bs)) (zeroAt bs)
 pub record Three : Type 0 where
   pub name : List ℕ
   pub format : List ℕ
-  pub samples : List ℕ
+  pub dataBytes : List ℕ
 
+-- the parts, once the Name is known
 abbrev pub second : List ℕ → Option (List ℕ × List ℕ) → Option Three
-second name p = mapped (λ q. record { name = name; format = q .0; samples = q .1 }) p
+second name p = mapped (λ q. record { name = name; format = q .0; dataBytes = q .1 }) p
 
+-- the parts, once the Name was looked for
 abbrev pub threeAfter : Option (List ℕ × List ℕ) → Option Three
 threeAfter None = None
 threeAfter (Some p) = second (p .0) (cutOf (p .1))
@@ -58,8 +60,9 @@ threeAfter (Some p) = second (p .0) (cutOf (p .1))
 abbrev pub threeOf : List ℕ → Option Three
 threeOf bs = threeAfter (cutOf bs)
 
+-- the parts in code, as their bytes
 abbrev pub heldIn : UserParts → Three
-heldIn p = record { name = p .name .now; format = p .format .now; samples = p .«data» .now }
+heldIn p = record { name = p .name .now; format = p .format .now; dataBytes = p .«data» .now }
 
 -- zero bytes come before letters
 abbrev pub unlessWrong : Three → Option ℕ → Result Three UserFault

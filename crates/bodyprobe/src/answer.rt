@@ -35,7 +35,7 @@ fn refused(heap: Global, fault: &impl Refusal) -> Result<String, AllocError> {
     format!(heap, "refused {number} {place}")
 }
 
-fn judge_line(heap: Global, t: u16, body: &[u8], counter: Counter) -> Result<String, AllocError> {
+fn judge_line(heap: Global, t: u32, body: &[u8], counter: Counter) -> Result<String, AllocError> {
     match judge_body(t, counter, body) {
         Ok(()) => String::from_str(heap, "sound"),
         Err(fault) => {
@@ -122,7 +122,7 @@ fn push_pings(parts: &mut Parts, multi: OnePacket<'_>, counter: Counter) -> Resu
 }
 
 // The parts of a sound body.
-fn push_parts(parts: &mut Parts, t: u16, body: &[u8], counter: Counter) -> Result<(), AllocError> {
+fn push_parts(parts: &mut Parts, t: u32, body: &[u8], counter: Counter) -> Result<(), AllocError> {
     match t {
         11 => match read_user(body) {
             Ok(user) => push_user(parts, user),
@@ -155,7 +155,7 @@ fn push_parts(parts: &mut Parts, t: u16, body: &[u8], counter: Counter) -> Resul
     }
 }
 
-fn parts_line(heap: Global, t: u16, body: &[u8], counter: Counter) -> Result<String, AllocError> {
+fn parts_line(heap: Global, t: u32, body: &[u8], counter: Counter) -> Result<String, AllocError> {
     if let Err(fault) = judge_body(t, counter, body) {
         return refused(heap, &fault);
     }
@@ -165,7 +165,7 @@ fn parts_line(heap: Global, t: u16, body: &[u8], counter: Counter) -> Result<Str
     Ok(parts.text)
 }
 
-fn field_line(heap: Global, t: u16, body: &[u8], n: usize) -> Result<String, AllocError> {
+fn field_line(heap: Global, t: u32, body: &[u8], n: usize) -> Result<String, AllocError> {
     match read_field(t, body, n) {
         Ok(Field::Number(x)) => format!(heap, "ok number {x}"),
         Ok(Field::Signed(x)) => format!(heap, "ok signed {x}"),
@@ -192,7 +192,7 @@ fn value_of<'a>(sort: Option<&str>, word: Option<&str>, run: &'a [u8]) -> Field<
 
 fn set_line(
     heap: Global,
-    t: u16,
+    t: u32,
     body: &mut [u8],
     n: usize,
     value: Field<'_>,

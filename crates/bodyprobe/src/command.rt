@@ -9,8 +9,8 @@ pub fn signed(word: Option<&str>) -> Option<i64> {
     word?.parse::<i64>().ok()
 }
 
-pub fn data_type(word: Option<&str>) -> Option<u16> {
-    word?.parse::<u16>().ok()
+pub fn data_type(word: Option<&str>) -> Option<u32> {
+    word?.parse::<u32>().ok()
 }
 
 pub fn counter(word: Option<&str>) -> Counter {

@@ -7,7 +7,7 @@ ghost use lib.Dec.{ltb};
 ghost use lib.ListN.{length, drop, getD};
 ghost use Rattle.std.specs.declared.option.Option.the-variants.{Some, None};
 ghost use Rattle.recording.specs.Cells.{cellAt};
-ghost use Rattle.indexfile.specs.Files.{noRow};
+ghost use Rattle.indexfile.specs.Written.{noRow};
 ghost use Rattle.listing.specs.Fetching.{byteIn, bytesAt, standing, fetching};
 ghost use Rattle.index.specs.Indexes.{cellsOf, meaningOf, standsAt, progress};
 use crate::Index;

@@ -4,7 +4,7 @@ ghost use mathlib.Core.Bool.{cond};
 ghost use Prim.Native.Nat.{_+_, _≤_, _<_};
 ghost use lib.ListN.{length, take, getD};
 ghost use Rattle.std.specs.declared.option.Option.the-variants.{None};
-ghost use Rattle.indexfile.specs.Files.{noRow};
+ghost use Rattle.indexfile.specs.Written.{noRow};
 ghost use Rattle.listing.specs.Settling.{body, counterIn, is-settings, settled as settled-by, settling};
 ghost use Rattle.index.specs.Indexes.{cellsOf, meaningOf, progress};
 use crate::Index;

@@ -9,9 +9,12 @@ use Rattle.indexfile.specs.declared.row.Row.{Row}
 use Rattle.indexfile.specs.Numbers.{number}
 use Rattle.indexfile.specs.Files.{rowOf, rowIn, rowsOf, rowsIn}
 
-pub length-rows-of : (m : ℕ) (bs : List ℕ) → length (rowsOf m bs) ≡ m
+length-rows-of : (m : ℕ) (bs : List ℕ) → length (rowsOf m bs) ≡ m
 length-rows-of zero bs = refl
 length-rows-of (suc m) bs = ap suc (length-rows-of m (drop 20 bs))
+
+pub counted : (bs : List ℕ) → length (rowsIn bs) ≡ number bs 0 4
+counted bs = length-rows-of (number bs 0 4) (drop 16 bs)
 
 at-rows : (m n : ℕ) (bs : List ℕ) (d : Row) → n < m → getD (rowsOf m bs) n d ≡ rowOf (drop (20 * n) bs)
 at-rows zero n bs d h = absurd (omega arith)

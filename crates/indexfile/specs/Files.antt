@@ -23,7 +23,7 @@ abbrev pub inOrder : ℕ → ℕ → List Row → Bool
 inOrder place end [] = true
 inOrder place end (x ∷ rows) = ltb 0 (x .length) && (leb end (x .place) && (leb (x .place + x .length) place && inOrder place (x .place + x .length) rows))
 
--- rows in order, of which each cell up to the place is skipped or in a row
+-- rows in order, that with the skipped cells make up the place
 abbrev pub soundRows : ℕ → ℕ → List Row → Bool
 soundRows place skipped rows = inOrder place 0 rows && eqb place (skipped + lengths rows)
 
@@ -54,7 +54,7 @@ countsIn bs = record { rows = number bs 0 4; place = number bs 8 4; skipped = nu
 abbrev pub rowOf : List ℕ → Row
 rowOf bs = record { place = number bs 0 4; length = number bs 4 4; tag = number bs 8 4; «source_type» = number bs 12 2; «source_id» = number bs 14 2; time = number bs 16 4 }
 
--- row n of a file, and all of its rows
+-- row n of a file
 abbrev pub rowIn : List ℕ → ℕ → Row
 rowIn bs n = rowOf (drop (16 + 20 * n) bs)
 
@@ -63,6 +63,7 @@ abbrev pub rowsOf : ℕ → List ℕ → List Row
 rowsOf zero bs = []
 rowsOf (suc n) bs = rowOf bs ∷ rowsOf n (drop 20 bs)
 
+-- all rows of a file
 abbrev pub rowsIn : List ℕ → List Row
 rowsIn bs = rowsOf (number bs 0 4) (drop 16 bs)
 

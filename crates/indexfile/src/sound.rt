@@ -52,7 +52,7 @@ fn follows(end: u64, row: Row, place: u32) -> bool
         && row.place as u64 + row.length as u64 <= place as u64
 }
 
-// The argument for both: each row follows the one before, and the lengths with the skipped cells make the place.
+// Each row follows the one before it, and the skipped cells and the rows make up the place.
 pub(crate) fn sound<R: Rows>(rows: &R, place: u32, skipped: u32) -> bool
     ensures { λ r. ⌜ r ≡ soundRows place skipped (R·Rows .listed (now (rows .entry))) ⌝ }
 {

@@ -50,6 +50,7 @@ abbrev pub allSums : List (ℕ × List Letter × ℕ) → Bool
 allSums [] = true
 allSums (r ∷ rs) = eqb (total (r .1)) (r .2) && allSums rs
 
+-- the whole table keeps the rule
 abbrev pub Sums : Type 0
 Sums = allSums catalogue ≡ true
 
@@ -58,6 +59,7 @@ abbrev pub lookup : ℕ → List (ℕ × List Letter × ℕ) → Option (List Le
 lookup t [] = None
 lookup t (r ∷ rs) = cond (eqb t (r .0)) (Some (r .1, r .2)) (lookup t rs)
 
+-- the layout of a type, if its bodies are fixed
 abbrev pub layoutOf : ℕ → Option (List Letter × ℕ)
 layoutOf t = lookup t catalogue
 

@@ -27,5 +27,6 @@ abbrev pub Judged : List (List ℕ × Result (Unit {0}) LayoutFault) → Type 0
 Judged [] = Unit {0}
 Judged (e ∷ es) = (settingsBody (e .0) ≡ e .1) × Judged es
 
+-- all of the examples
 abbrev pub Examples : Type 0
 Examples = Judged examples

@@ -38,13 +38,15 @@ settingsLength v altimeter = cond (between 1 11 v) (Some (lengthOf v altimeter))
 abbrev pub back : List ℕ → ℕ → ℕ → ℕ
 back bs n k = number bs (length bs - n) k
 
--- the members by which settings are judged: byte 13, the byte 30 before the end, and the four from 94 before the end on
+-- the members by which settings are judged: Version is byte 13
 abbrev pub version : List ℕ → ℕ
 version bs = getD bs 13 0
 
+-- the byte that begins 30 before the end
 abbrev pub headControllerVersion : List ℕ → ℕ
 headControllerVersion bs = getD bs (length bs - 30) 0
 
+-- the four bytes from 94 before the end on
 abbrev pub hidType : List ℕ → ℕ
 hidType bs = back bs 94 4
 
@@ -71,6 +73,7 @@ settingsChecks n v controller hid =
     andThen (check (eqb controller w) (fault.HeadControllerVersion (n - 30))) (λ _.
     check (headAgrees n v hid) (fault.HidType (n - 94))))
 
+-- the checks of a settings body
 abbrev pub settingsBody : List ℕ → Result (Unit {0}) LayoutFault
 settingsBody bs = settingsChecks (length bs) (version bs) (headControllerVersion bs) (hidType bs)
 

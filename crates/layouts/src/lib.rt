@@ -3,6 +3,6 @@ pub mod catalogue;
 pub mod fault;
 pub mod letters;
 pub mod locate;
-pub mod members;
-pub mod numbers;
+mod members;
+mod numbers;
 pub mod settings;

@@ -1,1 +1,2 @@
 pub mod ToTheEnd
+pub mod Spelling

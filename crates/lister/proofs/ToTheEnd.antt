@@ -1,9 +1,9 @@
 -- One scan of a short recording, with a row for each cell, comes to the end.
 use mathlib.Core.Path.{_≡_, refl, sym, ap, subst, _∙_}
 use mathlib.Core.List.{List, [], _∷_, _++_, append-nil}
-use Prim.Native.Nat.{ℕ, _+_, _≤_, _<_}
+use Prim.Native.Nat.{ℕ, _+_, _≤_}
 use native.Mathlib.Omega.{arith}
-use lib.ListN.{length, take, drop, length-take, take-append-drop}
+use lib.ListN.{length, take, drop, take-append-drop}
 use Rattle.recording.specs.declared.Cell.{Cell}
 use Rattle.records.specs.Records.{Meaning, Laws}
 use Rattle.indexfile.specs.declared.row.Row.{Row}
@@ -11,13 +11,13 @@ use Rattle.listing.specs.declared.answer.Call.the-variants as call
 use Rattle.listing.specs.declared.answer.Stop.{Stop}
 use Rattle.listing.specs.declared.answer.Stop.the-variants.{Ended, Spent, Full}
 use Rattle.listing.specs.declared.answer.Scanned.{Scanned}
-use Rattle.listing.specs.Listing.{listing, lengths}
+use Rattle.listing.specs.Listing.{listing}
+use Rattle.indexfile.specs.Files.{lengths}
 use Rattle.listing.specs.Progress.{Progress, held}
 use Rattle.listing.specs.Scanning.{scanning}
 use Rattle.listing.specs.Visits.{visited, unused}
 use Rattle.listing.specs.Promise.{Why, extra, Goes, Used, Promise}
 use Rattle.listing.specs.declared.answer.Visit.{Visit}
-use Rattle.recording.specs.Cells.{plain, length-bytes}
 use Rattle.listing.specs.Visits.{unmade}
 use Rattle.lister.specs.Listed.{Ends}
 use Rattle.listing.proofs.Lists.{turn-end}
@@ -47,11 +47,11 @@ module _ {M : ℕ} {m : Meaning} (laws : Laws M m) (cs : List Cell) (promise : P
   pub ends : Ends m cs after
   ends = let (a, e, g) = promise .used table [] .scans 65536 (omega arith) (omega arith) in by a g (a .stop) refl (g .why)
 
--- the same, of bytes, and told by what the code did
-pub reads-all : {M : ℕ} {m : Meaning} → Laws M m → (bs : List ℕ) (cs : List Cell) (table : List Row) (v : Visit) (s t : Progress) → Promise M m cs → length bs ≤ 32768 → length table ≡ length bs
-    → cs ≡ plain bs → v ≡ unmade (call.Scan 65536) → s ≡ unused table → t ≡ visited m cs (v ∷ []) s → Ends m (plain bs) t
-reads-all {m = m} laws bs cs table v s t promise short size ecs ev es left =
-    let n : length cs ≡ length bs = ap length ecs ∙ length-bytes (take 2147483647 bs) ∙ length-take 2147483647 bs ∙ omega arith in
+-- the same, told by what the code did
+pub reads-all : {M : ℕ} {m : Meaning} → Laws M m → (cs ds : List Cell) (table : List Row) (v : Visit) (s t : Progress) → Promise M m cs → length ds ≤ 32768 → length table ≡ length ds
+    → cs ≡ ds → v ≡ unmade (call.Scan 65536) → s ≡ unused table → t ≡ visited m cs (v ∷ []) s → Ends m ds t
+reads-all {m = m} laws cs ds table v s t promise short size ecs ev es left =
+    let n : length cs ≡ length ds = ap length ecs in
     let here : t ≡ scanning m cs 65536 (unused table) .1 = left ∙ (λ j. visited m cs (ev j ∷ []) (es j)) in
     let there : Ends m cs t = subst (Ends m cs) (sym here) (ends laws cs promise table (omega arith) (omega arith)) in
     subst (λ z. Ends m z t) ecs there

@@ -1,2 +1,3 @@
 pub mod Listed
 pub mod Lines
+pub mod Words

@@ -3,6 +3,7 @@ use mathlib.Core.List.{List, _++_}
 use Prim.Native.Nat.{ℕ}
 use lib.Chars.{codes}
 use Rattle.std.specs.Written.{decimal}
+use Rattle.refusals.specs.declared.Notice.{Notice}
 use Rattle.indexfile.specs.declared.row.Row.{Row}
 use Rattle.lister.specs.declared.Counts.{Counts}
 
@@ -14,3 +15,7 @@ rowText r =
 -- the place reached, the cells skipped and the number of rows
 abbrev pub endText : Counts → List ℕ
 endText c = codes "end " ++ (decimal (c .place) ++ (codes " skipped " ++ (decimal (c .skipped) ++ (codes " rows " ++ decimal (c .rows)))))
+
+-- the number of a refusal and its place
+abbrev pub refusalText : Notice → List ℕ
+refusalText n = codes "refused " ++ (decimal (n .number) ++ (codes " " ++ decimal (n .place)))

@@ -9,20 +9,24 @@ ghost use Rattle.lister.specs.declared.ListError.the-variants.{Memory};
 ghost use Rattle.lister.specs.Listed.{Ends, Lists};
 ghost use Rattle.recording.specs.Cells.{plain};
 ghost use Rattle.listing.specs.Progress.{at};
-ghost use Rattle.lister.specs.Lines.{rowText, endText};
+ghost use Rattle.lister.specs.Lines.{rowText, endText, refusalText};
 use index::Index;
 use listing::answer::Call;
 use listing::answer::Visit;
 use indexfile::row::Row;
+use recording::Store;
 use recording::plain::Plain;
 use recording::plain::PlainStore;
+use refusals::Refusal;
 use records::kind::RecordKind;
 use std::alloc::AllocError;
 use std::alloc::Global;
 
+pub mod card;
 pub mod print;
+pub mod words;
 
-// The most bytes that are listed.
+// The most cells that are listed.
 pub const MOST: usize = 32_768;
 
 // The counts of an index at the end of its recording.
@@ -42,7 +46,7 @@ pub struct Listed {
 
 #[derive(Drop)]
 pub enum ListError {
-    // There are more bytes than are listed.
+    // There are more cells than are listed.
     TooLong,
     Memory,
 }
@@ -69,14 +73,14 @@ fn blank_table(heap: Global, rows: usize) -> Result<Vec<Row>, AllocError>
     vec![in heap; blank; rows]
 }
 
-// Reads a recording to its end: a table with a row for each byte is never full, and one scan suffices.
-fn read_whole<K: RecordKind + Drop>(kind: K, bytes: &[u8], table: &mut [Row]) -> Counts
-    requires { ⌜ length (now bytes) ≤ 32768 ⌝ ∗ ⌜ length (now table) ≡ length (now bytes) ⌝ }
-    ensures { λ r. ⌜ Ends (K·RecordKind .stands kind) (plain (now (bytes .entry))) (at (r .place) (r .skipped) (r .rows) (now (table .exit))) ⌝ }
+// Reads a recording to its end: a table with a row for each cell is never full, and one scan suffices.
+fn read_whole<S: Store + Drop, K: RecordKind + Drop>(store: S, kind: K, table: &mut [Row]) -> Counts
+    requires { ⌜ length (S·Store .cells store) ≤ 32768 ⌝ ∗ ⌜ length (now table) ≡ length (S·Store .cells store) ⌝ }
+    ensures { λ r. ⌜ Ends (K·RecordKind .stands kind) (S·Store .cells store) (at (r .place) (r .skipped) (r .rows) (now (table .exit))) ⌝ }
 {
-    let mut index = Index::open(Plain::new(bytes), kind);
+    let mut index = Index::open(store, kind);
     let mut visits = [Visit::new(Call::Scan(65_536))];
-    index.run(table, &mut visits);
+    index.run(table, &mut [], &mut visits);
     Counts {
         rows: index.rows(),
         place: index.place(),
@@ -84,16 +88,28 @@ fn read_whole<K: RecordKind + Drop>(kind: K, bytes: &[u8], table: &mut [Row]) ->
     }
 }
 
-// Every row of the recording that the bytes are.
-pub fn list<K: RecordKind + Drop>(heap: Global, kind: K, bytes: &[u8]) -> Result<Listed, ListError>
-    ensures { λ r. ⌜ Lists (K·RecordKind .stands kind) (now (bytes .entry)) r ⌝ }
+// Every row of the recording that a store holds.
+pub fn list_store<S: Store + Drop, K: RecordKind + Drop>(
+    heap: Global,
+    store: S,
+    kind: K,
+) -> Result<Listed, ListError>
+    ensures { λ r. ⌜ Lists (K·RecordKind .stands kind) (S·Store .cells store) r ⌝ }
 {
-    if bytes.len() > MOST {
+    let cells = store.len() as usize;
+    if cells > MOST {
         return Err(ListError::TooLong);
     }
-    let mut table = blank_table(heap, bytes.len())?;
-    let counts = read_whole(kind, bytes, &mut table);
+    let mut table = blank_table(heap, cells)?;
+    let counts = read_whole(store, kind, &mut table);
     Ok(Listed { table, counts })
+}
+
+// Every row of the recording that the bytes are.
+pub fn list<K: RecordKind + Drop>(heap: Global, kind: K, bytes: &[u8]) -> Result<Listed, ListError>
+    ensures { λ r. ⌜ Lists (K·RecordKind .stands kind) (plain (now (bytes .entry))) r ⌝ }
+{
+    list_store(heap, Plain::new(bytes), kind)
 }
 
 // A row's six members.
@@ -124,4 +140,13 @@ pub fn end_line(heap: Global, counts: Counts) -> Result<String, AllocError>
         skipped,
     } = counts;
     format!(heap, "end {place} skipped {skipped} rows {rows}")
+}
+
+// The line of a refusal.
+pub fn refusal_line<R: Refusal>(heap: Global, refusal: &R) -> Result<String, AllocError>
+    ensures { λ r. ⌜ made r (λ s. string-bytes s ≡ refusalText (R·Refusal .told (now (refusal .entry)))) ⌝ }
+{
+    let number = refusal.number();
+    let place = refusal.place();
+    format!(heap, "refused {number} {place}")
 }

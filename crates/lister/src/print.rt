@@ -11,7 +11,7 @@ use std::io;
 use std::io::Read;
 
 // All of standard input, or enough of it to see that it is too long.
-fn read_input(rt: &LibcRuntime) -> io::Result<Vec<u8>> {
+pub(crate) fn read_input(rt: &LibcRuntime) -> io::Result<Vec<u8>> {
     let mut stdin = rt.stdin();
     let mut all = Vec::new(rt.alloc());
     let mut buffer = [0u8; 4096];
@@ -33,11 +33,16 @@ fn print_rows(rt: &LibcRuntime, listed: &Listed) -> io::Result<()> {
 }
 
 // A line for each row and a closing line, or the line `too long`.
-pub fn print_listing<K: RecordKind + Drop>(rt: &LibcRuntime, kind: K) -> io::Result<()> {
-    let bytes = read_input(rt)?;
-    match list(rt.alloc(), kind, &bytes) {
+pub(crate) fn print_listed(rt: &LibcRuntime, listed: Result<Listed, ListError>) -> io::Result<()> {
+    match listed {
         Ok(listed) => print_rows(rt, &listed),
         Err(ListError::TooLong) => println!(rt, "too long"),
         Err(ListError::Memory) => Err(AllocError.into()),
     }
+}
+
+// Prints the listing of the bytes.
+pub fn print_listing<K: RecordKind + Drop>(rt: &LibcRuntime, kind: K) -> io::Result<()> {
+    let bytes = read_input(rt)?;
+    print_listed(rt, list(rt.alloc(), kind, &bytes))
 }

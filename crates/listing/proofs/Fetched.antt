@@ -17,7 +17,7 @@ use Rattle.listing.specs.declared.answer.FetchRefusal.{FetchRefusal}
 use Rattle.listing.specs.declared.answer.FetchRefusal.the-variants.{ShortTable, RowNotHeld, RowNotStanding, ShortBuffer}
 use Rattle.records.specs.Records.{Meaning, Laws, run}
 use Rattle.listing.specs.Progress.{Progress}
-use Rattle.indexfile.specs.Files.{noRow}
+use Rattle.indexfile.specs.Written.{noRow}
 use Rattle.listing.specs.Fetching.{byteOf, bytesAt, standing, fetching}
 use Rattle.listing.specs.Settling.{body}
 use Rattle.listing.proofs.Inside.{row-inside}

@@ -20,7 +20,8 @@ use Rattle.records.specs.declared.kind.Record.{Record}
 use Rattle.records.specs.Records.{Meaning, Laws}
 use Rattle.indexfile.specs.declared.row.Row.{Row}
 use Rattle.indexfile.specs.declared.refusal.WriteRefusal.the-variants as write
-use Rattle.indexfile.specs.Files.{noRow, lengths, inOrder, soundRows, fileOf, writing}
+use Rattle.indexfile.specs.Written.{noRow}
+use Rattle.indexfile.specs.Files.{lengths, inOrder, soundRows, fileOf, writing}
 use Rattle.listing.specs.declared.answer.FetchRefusal.the-variants as fetch
 use Rattle.listing.specs.declared.answer.SettleRefusal.the-variants as settle
 use Rattle.listing.specs.declared.answer.SaveRefusal.the-variants as save

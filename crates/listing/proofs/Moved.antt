@@ -18,7 +18,7 @@ use Rattle.records.specs.declared.kind.Record.{Record}
 use Rattle.indexfile.specs.declared.row.Row.{Row}
 use Rattle.records.specs.Records.{Meaning, Laws, run}
 use Rattle.listing.specs.Listing.{rowAt, listing, Clear, ahead, behind, Ascending, Standing}
-use Rattle.indexfile.specs.Files.{noRow}
+use Rattle.indexfile.specs.Written.{noRow}
 use Rattle.listing.specs.Fetching.{byteOf, bytesAt, standing}
 use Rattle.listing.specs.Settling.{body, last}
 use Rattle.listing.proofs.SameTest.{same-test}

@@ -17,7 +17,7 @@ use Rattle.layouts.specs.declared.fault.LayoutFault.{LayoutFault}
 use Rattle.layouts.specs.declared.fault.LayoutFault.the-variants as fault
 use Rattle.layouts.specs.declared.settings.Settings.{Settings}
 use Rattle.layouts.specs.Checks.{check, andThen}
-use Rattle.layouts.specs.Settings.{between, since, lengthOf, version, headAgrees, isAltimeter, counterOf, settingsOf}
+use Rattle.layouts.specs.Settings.{between, since, lengthOf, version, headControllerVersion, hidType, headAgrees, altimeterFor, counterOf, settingsOf}
 use Rattle.layouts.specs.Members.{highRate}
 use Rattle.std.proofs.shelf.Tests.{eq-eqb, ne-eqb, or-from, cases-lt, and-parts, le-leb, lt-leb}
 use Rattle.std.proofs.shelf.Elements.{kept-by-append}
@@ -28,7 +28,7 @@ use Rattle.recording.specs.declared.Cell.{Cell}
 use Rattle.indexfile.specs.declared.row.Row.{Row}
 use Rattle.records.specs.Records.{Meaning, run}
 use Rattle.layouts.specs.declared.settings.Counter.{Counter}
-use Rattle.indexfile.specs.Files.{noRow}
+use Rattle.indexfile.specs.Written.{noRow}
 use Rattle.listing.specs.Fetching.{byteOf, bytesAt, standing}
 use Rattle.listing.specs.Settling.{same-head, body, counterIn, last, is-settings, governing, counter-by}
 use Rattle.listing.proofs.Moved.{last-right}
@@ -79,8 +79,8 @@ fails false b v = (fault.Length, refl)
 abbrev by-version : List ℕ → Result ℕ LayoutFault → Option Counter
 by-version bs r =
     mapped (λ (s : Settings). s .counter) (okPart (andThen (andThen r (λ v.
-    andThen (check (eqb (getD bs (length bs - 30) 0) v) (fault.HeadControllerVersion (length bs - 30))) (λ _.
-    check (headAgrees bs) (fault.HidType (length bs - 94))))) (λ _. Ok (record { version = version bs; altimeter = isAltimeter bs; counter = counterOf bs }))))
+    andThen (check (eqb (headControllerVersion bs) v) (fault.HeadControllerVersion (length bs - 30))) (λ _.
+    check (headAgrees (length bs) (version bs) (hidType bs)) (fault.HidType (length bs - 94))))) (λ _. Ok (record { version = version bs; altimeter = altimeterFor (length bs) (version bs); counter = counterOf bs }))))
 
 too-many : (bs : List ℕ) → 222 < length bs → counterIn bs ≡ None
 too-many bs h =

@@ -14,7 +14,7 @@ use Rattle.recording.specs.declared.PastEnd.{PastEnd}
 use Rattle.records.specs.declared.kind.Record.{Record}
 use Rattle.records.specs.Records.{Meaning, run}
 use Rattle.indexfile.specs.declared.row.Row.{Row}
-use Rattle.indexfile.specs.Files.{noRow}
+use Rattle.indexfile.specs.Written.{noRow}
 use Rattle.listing.specs.declared.answer.FetchRefusal.{FetchRefusal}
 use Rattle.listing.specs.declared.answer.FetchRefusal.the-variants.{ShortTable, RowNotHeld, RowNotStanding, ShortBuffer}
 use Rattle.listing.specs.Progress.{Progress}

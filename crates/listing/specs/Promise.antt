@@ -29,7 +29,8 @@ use Rattle.std.specs.Options.{okOr}
 use Rattle.std.specs.Results.{mapped}
 use Rattle.bodies.specs.Judge.{needsSettings}
 use Rattle.listing.specs.Refusals.{scan-refusal, clear-refusal}
-use Rattle.indexfile.specs.Files.{noRow, lengths, fileOf}
+use Rattle.indexfile.specs.Written.{noRow}
+use Rattle.indexfile.specs.Files.{lengths, fileOf}
 use Rattle.listing.specs.Listing.{listing, moved, EndsBy, Clear, ahead, behind, counted, listedAt, Chooses, Tabulates, Along}
 use Rattle.listing.specs.Progress.{Progress, held}
 use Rattle.listing.specs.Scanning.{scanning}

@@ -24,10 +24,12 @@ use Rattle.packets.specs.declared.packet.Packet.{Packet}
 abbrev pub contentOf : ℕ → Option Content
 contentOf n = cond (leb 1 n) (cond (leb n 2) (Some Sonar) (cond (leb n 4) (Some Profile) None)) None
 
+-- whether it is sonar data
 abbrev pub isSonar : Content → Bool
 isSonar Sonar = true
 isSonar Profile = false
 
+-- the other of the two
 abbrev pub other : Content → Content
 other Sonar = Profile
 other Profile = Sonar
@@ -60,6 +62,7 @@ counterLength Without = 0
 abbrev pub counterOf : Counter → Packet → ℕ
 counterOf counter p = cond (isSonar (p .content)) (counterLength counter) 0
 
+-- how many bytes a packet takes with its counter
 abbrev pub counted : Counter → Packet → ℕ
 counted counter p = plain p + counterOf counter p
 
@@ -83,13 +86,15 @@ profilePacket bs =
     andThen (check (eqb (length bs) (20 + plain p)) fault.Length) (λ _.
     Ok p))
 
+-- whether such a body is sound
 abbrev pub profileBody : List ℕ → Result (Unit {0}) PacketFault
 profileBody bs = sound (profilePacket bs)
 
--- type 14: extra header, then a sonar and a profile packet in either order; the counter stands behind the sonar data
+-- type 14: extra header, then a sonar and a profile packet in either order; this is the one with sonar data
 abbrev pub sonarOf : Packet → Packet → Packet
 sonarOf first second = cond (isSonar (first .content)) first second
 
+-- the two packets of a body of the right length
 abbrev pub pairPackets : Counter → List ℕ → Result (Packet × Packet) PacketFault
 pairPackets counter bs =
     andThen (packetAt bs 20) (λ a.
@@ -97,12 +102,14 @@ pairPackets counter bs =
     andThen (check (eqb (length bs) (20 + counted counter a + counted counter b)) fault.Length) (λ _.
     Ok (a, b))))
 
+-- the same, once the pings are judged
 abbrev pub pairSound : Counter → List ℕ → Result (Packet × Packet) PacketFault
 pairSound counter bs =
     andThen (pairPackets counter bs) (λ p.
     andThen (pings bs (sonarOf (p .0) (p .1) .«data_number») (sonarOf (p .0) (p .1) .«data_size_bytes»)) (λ _.
     Ok p))
 
+-- whether such a body is sound
 abbrev pub pairBody : Counter → List ℕ → Result (Unit {0}) PacketFault
 pairBody counter bs = sound (pairSound counter bs)
 
@@ -113,11 +120,13 @@ multiPacket counter bs =
     andThen (check (eqb (length bs) (20 + plain p + p .«data_number» * counterLength counter)) fault.Length) (λ _.
     Ok p))
 
+-- the same, once the pings are judged
 abbrev pub multiSound : Counter → List ℕ → Result Packet PacketFault
 multiSound counter bs =
     andThen (multiPacket counter bs) (λ p.
     andThen (pings bs (p .«data_number») (p .«data_size_bytes»)) (λ _.
     Ok p))
 
+-- whether such a body is sound
 abbrev pub multiBody : Counter → List ℕ → Result (Unit {0}) PacketFault
 multiBody counter bs = sound (multiSound counter bs)

@@ -18,37 +18,41 @@ use Rattle.packets.specs.Packets.{dataLength, plain, counterLength, counterOf,
 pub record SonarBytes : Type 0 where
   pub bytesInPacket : ℕ
   pub extraHeader : List ℕ
-  pub samples : List ℕ
+  pub dataBytes : List ℕ
   pub counter : List ℕ
 
+-- a ping in code, as its bytes
 abbrev pub sonarHeld : SonarParts → SonarBytes
 sonarHeld p =
-    record { bytesInPacket = p .«bytes_in_packet»; extraHeader = p .«extra_header» .now; samples = p .«data» .now; counter = p .counter .now }
+    record { bytesInPacket = p .«bytes_in_packet»; extraHeader = p .«extra_header» .now; dataBytes = p .«data» .now; counter = p .counter .now }
 
 -- type 12: all between the extra header and the counter is the ping
 abbrev pub sonarParts : Counter → List ℕ → Result SonarBytes PacketFault
 sonarParts counter bs =
-    mapped (λ _. record { bytesInPacket = number bs 0 2; extraHeader = part bs 0 20; samples = part bs 20 (length bs - 20 - counterLength counter); counter = part bs (length bs - counterLength counter) (counterLength counter) }) (λ e. e)
+    mapped (λ _. record { bytesInPacket = number bs 0 2; extraHeader = part bs 0 20; dataBytes = part bs 20 (length bs - 20 - counterLength counter); counter = part bs (length bs - counterLength counter) (counterLength counter) }) (λ e. e)
     (sonarBody counter bs)
 
 -- what a packet holds, whoever holds its bytes
 pub record PacketBytes : Type 0 where
   pub packet : Packet
   pub header : List ℕ
-  pub samples : List ℕ
+  pub dataBytes : List ℕ
   pub counters : List ℕ
 
+-- a packet in code, as its bytes
 abbrev pub partsHeld : PacketParts → PacketBytes
-partsHeld p = record { packet = p .packet; header = p .header .now; samples = p .«data» .now; counters = p .counters .now }
+partsHeld p = record { packet = p .packet; header = p .header .now; dataBytes = p .«data» .now; counters = p .counters .now }
 
 -- a packet's header, the data behind it, and so many bytes of counters behind them
 abbrev pub partsAt : List ℕ → ℕ → Packet → ℕ → PacketBytes
 partsAt bs at p k =
-    record { packet = p; header = part bs at 22; samples = part bs (at + 22) (dataLength p); counters = part bs (at + plain p) k }
+    record { packet = p; header = part bs at 22; dataBytes = part bs (at + 22) (dataLength p); counters = part bs (at + plain p) k }
 
+-- a body of one packet in code, as its bytes
 abbrev pub oneHeld : OnePacket → List ℕ × PacketBytes
 oneHeld b = (b .«extra_header» .now, partsHeld (b .packet))
 
+-- a body of two packets in code, as its bytes
 abbrev pub twoHeld : TwoPackets → List ℕ × PacketBytes × PacketBytes
 twoHeld b = (b .«extra_header» .now, partsHeld (b .first), partsHeld (b .second))
 

@@ -1,7 +1,7 @@
 // Bodies of pings and profiles: sonar, profile, sonar and profile, multi sonar.
 pub mod fault;
 pub mod multi;
-pub mod numbers;
+mod numbers;
 pub mod packet;
 pub mod pair;
 pub mod profile;

@@ -1,2 +1,6 @@
 pub mod Cells
+pub mod Pieces
+pub mod Checks
+pub mod Marks
+pub mod Losses
 pub mod Refusals

@@ -1,14 +1,18 @@
 // A recording is a list of cells, and a store is what holds one.
 ghost use mathlib.Core.Path.{_≡_};
+ghost use mathlib.Core.Bool.{true};
 ghost use mathlib.Core.List.{List};
+ghost use mathlib.Core.Logic.{_↔_};
 ghost use Prim.Native.Nat.{ℕ, _≤_};
 ghost use lib.ListN.{length};
 ghost use denote.Ref.{now};
 ghost use Rattle.recording.specs.declared.Cell.{Cell};
-ghost use Rattle.recording.specs.Cells.{cellAt, isByte, wholeFrom};
+ghost use Rattle.recording.specs.Cells.{cellAt, isByte, wholeFrom, Bytes, whole-everywhere};
 
+pub mod extents;
 pub mod plain;
 pub mod refusal;
+pub mod stretches;
 
 // One cell of a recording: a byte, or a cell that could not be read.
 #[derive(Clone, Copy, Debug, PartialEq, Eq)]
@@ -29,6 +33,9 @@ pub trait Store {
     ghost cells: { Self → List Cell };
 
     ghost bounded: { (s : Self) → length (cells s) ≤ 2147483647 };
+
+    // A run of cells is whole exactly if there is a byte at each of its places.
+    ghost everywhere: { (cs : List Cell) (at count : ℕ) → (wholeFrom cs at count ≡ true) ↔ Bytes cs at count } = { whole-everywhere };
 
     fn len(&self) -> u32
         ensures { λ r. ⌜ r ≡ length (cells (now (self .entry))) ⌝ };

@@ -4,7 +4,7 @@ use native.Mathlib.Omega.{arith}
 use lib.ListN.{getD, take}
 use Rattle.std.specs.declared.option.Option.the-variants.{Some}
 use Rattle.layouts.specs.declared.settings.Counter.the-variants.{Without}
-use Rattle.indexfile.specs.Files.{noRow}
+use Rattle.indexfile.specs.Written.{noRow}
 use Rattle.listing.proofs.Settles.{By, passed-back, governs-back}
 use Rattle.index.proofs.Index.settled.Needs as need
 

@@ -1,6 +1,5 @@
 use borrow.Author.Count.{below-none, below-more}
 use mathlib.Core.Path.{refl, _∙_}
-use Prim.Native.Nat.{ℕ, _<_}
 use native.Mathlib.Omega.{arith}
 use lib.ListN.{getD}
 use Rattle.indexfile.specs.Written.{Wide, noRow}
