@@ -28,7 +28,7 @@ all-hold = (
                   record { listed = refl; scanned = refl; answers = tt },
                   (
                     record { listed = refl; scanned = refl; answers = (refl, tt) },
-                    tt,
+                    (refl, (refl, (refl, (refl, tt)))),
                   ),
                 ),
               ),

@@ -1,4 +1,4 @@
-// Worked examples of listings and clear boundaries, proved of the definitions that the library promises.
+// Worked examples of listings, clear boundaries and settings, proved of the definitions that the library promises.
 ghost use mathlib.Core.Path.{_≡_};
 ghost use lib.ListN.{length};
 ghost use Rattle.std.specs.shelf.Lists.{All};
@@ -9,5 +9,5 @@ pub fn worked_examples() -> usize
     ensures count { λ r. ⌜ r ≡ length examples ⌝ }
     ensures hold { λ _. ⌜ All Holds examples ⌝ }
 {
-    10
+    14
 }

@@ -4,9 +4,9 @@ ghost use Prim.Native.Nat.{_≤_};
 ghost use Rattle.index.specs.Indexes.{cellsOf, meaningOf, standsAt, progress};
 ghost use Rattle.listing.specs.Clearing.{ends-after, clearing, cleared, Tells};
 use crate::Index;
+use indexfile::row::Row;
 use listing::answer::ClearRefusal;
 use listing::answer::Cleared;
-use indexfile::row::Row;
 use recording::Store;
 use records::kind::RecordKind;
 

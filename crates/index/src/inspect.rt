@@ -44,7 +44,12 @@ fn judge_row(row: u32, tag: u32, counter: Counter, body: &[u8]) -> Result<(), Fi
 
 impl<S: Store + Drop, K: RecordKind + Drop> Index<S, K> {
     // Fetches a row's tuple, settles it and judges its body. After a finding the buffer holds the tuple.
-    pub fn inspect(&self, table: &[Row], row: u32, buffer: &mut [u8]) -> Result<Inspected, FetchRefusal>
+    pub fn inspect(
+        &self,
+        table: &[Row],
+        row: u32,
+        buffer: &mut [u8],
+    ) -> Result<Inspected, FetchRefusal>
         ensures { λ r. ⌜ (r, now (buffer .exit)) ≡ inspecting (meaningOf K·RecordKind (now (self .entry))) (cellsOf S·Store (now (self .entry))) row (now (buffer .entry)) (progress (now (self .entry)) (now (table .entry))) ⌝ }
     {
         let length = self.fetch(table, row, buffer)?;

@@ -4,10 +4,10 @@ ghost use mathlib.Core.List.{List};
 ghost use Rattle.indexfile.specs.declared.row.Row.{Row};
 ghost use Rattle.index.specs.Calls.{Made, Ran, Opened, Serves};
 use crate::Index;
+use indexfile::row::Row;
 use listing::answer::Answer;
 use listing::answer::Call;
 use listing::answer::Visit;
-use indexfile::row::Row;
 use recording::Store;
 use records::kind::RecordKind;
 

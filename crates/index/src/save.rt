@@ -18,7 +18,12 @@ impl<S: Store + Drop, K: RecordKind + Drop> Index<S, K> {
         if table.len() < self.rows as usize {
             return Err(SaveRefusal::ShortTable);
         }
-        let length = write(&table[0..self.rows as usize], self.place, self.skipped, buffer)?;
+        let length = write(
+            &table[0..self.rows as usize],
+            self.place,
+            self.skipped,
+            buffer,
+        )?;
         Ok(length)
     }
 }

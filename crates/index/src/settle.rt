@@ -18,6 +18,7 @@ use records::kind::RecordKind;
 
 // The type of settings tuples, and the longest body that they have.
 const SETTINGS: u32 = 15;
+
 const LONGEST: u32 = 222;
 
 fn counter_in(body: &[u8]) -> Option<Counter>

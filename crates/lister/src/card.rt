@@ -10,13 +10,13 @@ use recording::extents::BadExtentRefusal;
 use recording::extents::Extent;
 use recording::extents::Extents;
 use recording::extents::ExtentsStore;
-use refusals::Refusal;
 use recording::stretches::MarkRefusalNumbers;
 use recording::stretches::Stretch;
 use recording::stretches::Stretches;
 use recording::stretches::StretchesStore;
 use records::tuples::TupleKind;
 use records::tuples::Tuples;
+use refusals::Refusal;
 use std::env;
 use std::io;
 

@@ -11,14 +11,14 @@ ghost use Rattle.recording.specs.Cells.{plain};
 ghost use Rattle.listing.specs.Progress.{at};
 ghost use Rattle.lister.specs.Lines.{rowText, endText, refusalText};
 use index::Index;
+use indexfile::row::Row;
 use listing::answer::Call;
 use listing::answer::Visit;
-use indexfile::row::Row;
 use recording::Store;
 use recording::plain::Plain;
 use recording::plain::PlainStore;
-use refusals::Refusal;
 use records::kind::RecordKind;
+use refusals::Refusal;
 use std::alloc::AllocError;
 use std::alloc::Global;
 

@@ -115,7 +115,7 @@ module _ {M : ℕ} {m : Meaning} (laws : Laws M m) (cs : List Cell) (s : Progres
   -- they are as many as are held, and no more than a file may have
   pub saves : (buffer : List ℕ) → saving buffer s
       ≡ cond (leb (16 + 20 * s .rows) (length buffer)) (Ok (16 + 20 * s .rows), fileOf (s .place) (s .skipped) (ahead (s .place) (listing m cs)) ++ drop (16 + 20 * s .rows) buffer)
-        (Err (save.Unwritten write.ShortBuffer), buffer)
+      (Err (save.Unwritten write.ShortBuffer), buffer)
   saves buffer = rw roomy (ap saved written ∙ saved-cond (leb (16 + 20 * s .rows) (length buffer)) _ _ buffer)
     where
       long : length (held s) ≡ s .rows

@@ -108,7 +108,7 @@ pub record Used (m : Meaning) (cs : List Cell) (table : List Row) (s : Progress)
   -- a save is refused for its buffer alone, and writes the file of exactly these rows
   pub saves : (buffer : List ℕ) → saving buffer s
       ≡ cond (leb (16 + 20 * s .rows) (length buffer)) (Ok (16 + 20 * s .rows), fileOf (s .place) (s .skipped) (ahead (s .place) (listing m cs)) ++ drop (16 + 20 * s .rows) buffer)
-        (Err (save.Unwritten write.ShortBuffer), buffer)
+      (Err (save.Unwritten write.ShortBuffer), buffer)
 
 -- a tuple needs no settings, or those that govern it begin at the boundary or later
 abbrev pub SettledBehind : Meaning → List Cell → ℕ → Progress → ℕ → Type 0

@@ -6,7 +6,6 @@ use Rattle.listing.specs.declared.answer.ScanRefusal.{ScanRefusal}
 use Rattle.listing.specs.declared.answer.ScanRefusal.the-variants as scan
 use Rattle.listing.specs.declared.answer.ClearRefusal.{ClearRefusal}
 use Rattle.listing.specs.declared.answer.ClearRefusal.the-variants as clear
-
 use Rattle.listing.specs.declared.answer.FetchRefusal.{FetchRefusal}
 use Rattle.listing.specs.declared.answer.FetchRefusal.the-variants as fetch
 use Rattle.listing.specs.declared.answer.SettleRefusal.{SettleRefusal}
