@@ -9,6 +9,7 @@ ghost use Rattle.std.specs.Results.{mapped as okMapped};
 ghost use denote.Ref.{now as held};
 use crate::fault::UserFault;
 
+// Name, Format and Data, without the zero bytes between them.
 #[derive(Clone, Copy)]
 pub struct UserParts<'a> {
     pub name: &'a [u8],
@@ -70,6 +71,7 @@ fn split(body: &[u8]) -> Option<UserParts<'_>>
     Some(UserParts { name, format, data })
 }
 
+// The parts of a sound user-defined body.
 pub fn read_user(body: &[u8]) -> Result<UserParts<'_>, UserFault>
     ensures { λ r. ⌜ okMapped heldIn (λ e. e) r ≡ userOf (now (body .entry)) ⌝ }
 {
@@ -82,6 +84,7 @@ pub fn read_user(body: &[u8]) -> Result<UserParts<'_>, UserFault>
     Ok(parts)
 }
 
+// Whether a user-defined body is sound.
 pub fn judge_user(body: &[u8]) -> Result<(), UserFault>
     ensures { λ r. ⌜ r ≡ sound (userOf (now (body .entry))) ⌝ }
 {

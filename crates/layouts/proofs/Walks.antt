@@ -1,5 +1,5 @@
 -- The steps of a walk along letters.
-use mathlib.Core.Path.{_≡_, refl, sym, ap, _∙_}
+use mathlib.Core.Path.{_≡_, sym, ap, _∙_}
 use mathlib.Core.Bool.{Bool, true, false, cond}
 use mathlib.Core.List.{List, [], _∷_, _++_, append-assoc, append-nil}
 use Prim.Native.Nat.{ℕ, zero, suc, _+_, _<_, _≤_}
@@ -9,7 +9,6 @@ use Rattle.std.proofs.shelf.Lists.{at-drop-more, at-drop-all, take-more-set}
 use Rattle.layouts.specs.declared.letters.Letter.{Letter}
 use Rattle.layouts.specs.declared.letters.Letter.the-variants.{D}
 use Rattle.layouts.specs.declared.members.Stands.{Stands}
-use Rattle.layouts.specs.declared.members.Stands.the-variants.{From}
 use Rattle.layouts.specs.Letters.{size, total}
 use Rattle.layouts.specs.Members.{stands, present}
 

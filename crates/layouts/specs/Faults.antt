@@ -1,5 +1,4 @@
 -- What the faults of bodies of members tell.
-use Prim.Native.Nat.{ℕ}
 use Rattle.refusals.specs.declared.Notice.{Notice}
 use Rattle.refusals.specs.Notices.{notice, nowhere}
 use Rattle.layouts.specs.declared.fault.LayoutFault.{LayoutFault}

@@ -1,5 +1,4 @@
 // What may be wrong with a body of pings or profiles.
-ghost use mathlib.Core.Path.{_≡_};
 ghost use Rattle.packets.specs.Faults.{packet-fault};
 use refusals::Refusal;
 

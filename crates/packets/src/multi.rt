@@ -41,6 +41,7 @@ fn multi_sound(body: &[u8], counter: Counter) -> Result<Packet, PacketFault>
     Ok(packet)
 }
 
+// Whether a multi sonar body is sound.
 pub fn judge_multi(body: &[u8], counter: Counter) -> Result<(), PacketFault>
     ensures { λ r. ⌜ r ≡ multiBody counter (now (body .entry)) ⌝ }
 {
@@ -48,6 +49,7 @@ pub fn judge_multi(body: &[u8], counter: Counter) -> Result<(), PacketFault>
     Ok(())
 }
 
+// The parts of a sound multi sonar body.
 pub fn read_multi(body: &[u8], counter: Counter) -> Result<OnePacket<'_>, PacketFault>
     ensures { λ r. ⌜ mapped oneHeld (λ e. e) r ≡ multiParts counter (now (body .entry)) ⌝ }
 {

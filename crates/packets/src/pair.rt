@@ -60,6 +60,7 @@ fn pair_sound(body: &[u8], counter: Counter) -> Result<(Packet, Packet), PacketF
     Ok((first, second))
 }
 
+// Whether a sonar and profile body is sound.
 pub fn judge_pair(body: &[u8], counter: Counter) -> Result<(), PacketFault>
     ensures { λ r. ⌜ r ≡ pairBody counter (now (body .entry)) ⌝ }
 {
@@ -67,6 +68,7 @@ pub fn judge_pair(body: &[u8], counter: Counter) -> Result<(), PacketFault>
     Ok(())
 }
 
+// The parts of a sound sonar and profile body.
 pub fn read_pair(body: &[u8], counter: Counter) -> Result<TwoPackets<'_>, PacketFault>
     ensures { λ r. ⌜ mapped twoHeld (λ e. e) r ≡ pairParts counter (now (body .entry)) ⌝ }
 {

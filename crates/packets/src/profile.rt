@@ -31,6 +31,7 @@ fn profile_packet(body: &[u8]) -> Result<Packet, PacketFault>
     Ok(packet)
 }
 
+// Whether a profile body is sound.
 pub fn judge_profile(body: &[u8]) -> Result<(), PacketFault>
     ensures { λ r. ⌜ r ≡ profileBody (now (body .entry)) ⌝ }
 {
@@ -38,6 +39,7 @@ pub fn judge_profile(body: &[u8]) -> Result<(), PacketFault>
     Ok(())
 }
 
+// The parts of a sound profile body.
 pub fn read_profile(body: &[u8]) -> Result<OnePacket<'_>, PacketFault>
     ensures { λ r. ⌜ mapped oneHeld (λ e. e) r ≡ profileParts (now (body .entry)) ⌝ }
 {

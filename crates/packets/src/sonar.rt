@@ -9,7 +9,7 @@ use crate::packet::counter_length;
 use crate::packet::judge_pings;
 use layouts::settings::Counter;
 
-// What BytesInPacket says is passed on, and nothing is made of it.
+// The parts of a sonar body; BytesInPacket is handed on as it stands.
 #[derive(Clone, Copy)]
 pub struct SonarParts<'a> {
     pub bytes_in_packet: u16,
@@ -18,6 +18,7 @@ pub struct SonarParts<'a> {
     pub counter: &'a [u8],
 }
 
+// Whether a sonar body is sound.
 pub fn judge_sonar(body: &[u8], counter: Counter) -> Result<(), PacketFault>
     ensures { λ r. ⌜ r ≡ sonarBody counter (now (body .entry)) ⌝ }
 {
@@ -28,6 +29,7 @@ pub fn judge_sonar(body: &[u8], counter: Counter) -> Result<(), PacketFault>
     judge_pings(body, 1, body.len() - around)
 }
 
+// The parts of a sound sonar body.
 pub fn read_sonar(body: &[u8], counter: Counter) -> Result<SonarParts<'_>, PacketFault>
     ensures { λ r. ⌜ mapped sonarHeld (λ e. e) r ≡ sonarParts counter (now (body .entry)) ⌝ }
 {
