@@ -1,0 +1,3 @@
+pub mod Sets
+pub mod Versions
+pub mod Rounds
