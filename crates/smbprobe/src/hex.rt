@@ -2,31 +2,35 @@
 use std::alloc::AllocError;
 use std::alloc::Global;
 
-fn digit(c: u8) -> u8 {
+fn digit(c: u8) -> Option<u8> {
     match c {
-        b'0'..=b'9' => c - b'0',
-        b'a'..=b'f' => c - b'a' + 10,
-        b'A'..=b'F' => c - b'A' + 10,
-        _ => 0,
+        b'0'..=b'9' => Some(c - b'0'),
+        b'a'..=b'f' => Some(c - b'a' + 10),
+        b'A'..=b'F' => Some(c - b'A' + 10),
+        _ => None,
     }
 }
 
-pub fn bytes_of(heap: Global, text: &str) -> Result<Vec<u8>, AllocError> {
+pub fn bytes_of(heap: Global, text: &str) -> Option<Vec<u8>> {
     let mut bytes = Vec::new(heap);
     if text == "-" {
-        return Ok(bytes);
+        return Some(bytes);
     }
     let mut high = None;
     for c in text.bytes() {
+        let low = digit(c)?;
         high = match high {
-            None => Some(digit(c)),
+            None => Some(low),
             Some(h) => {
-                bytes.push(h.wrapping_mul(16) | digit(c))?;
+                bytes.push(u8::wrapping_mul(h, 16) | low).ok()?;
                 None
             }
         };
     }
-    Ok(bytes)
+    match high {
+        None => Some(bytes),
+        Some(_) => None,
+    }
 }
 
 fn letter(n: u8) -> char {

@@ -1,21 +1,10 @@
-// The answer lines.
-use crate::command::counter;
-use crate::command::data_type;
-use crate::command::number;
-use crate::command::signed;
-use crate::hex::bytes_of;
-use crate::hex::push_hex;
-use bodies::fault::BodyFault;
+// Answers about bodies.
+use crate::answer::refused;
+use crate::words::Words;
 use bodies::fault::BodyFaultRefusal;
 use bodies::judge::judge_body;
 use bodies::user::UserParts;
 use bodies::user::read_user;
-use fields::fault::FieldFault;
-use fields::fault::FieldFaultRefusal;
-use fields::read::Field;
-use fields::read::field_place;
-use fields::read::read_field;
-use fields::set::set_field;
 use layouts::settings::Counter;
 use packets::multi::read_multi;
 use packets::packet::Content;
@@ -28,12 +17,6 @@ use packets::sonar::read_sonar;
 use refusals::Refusal;
 use std::alloc::AllocError;
 use std::alloc::Global;
-
-fn refused(heap: Global, fault: &impl Refusal) -> Result<String, AllocError> {
-    let number = fault.number();
-    let place = fault.place();
-    format!(heap, "refused {number} {place}")
-}
 
 fn judge_line(heap: Global, t: u32, body: &[u8], counter: Counter) -> Result<String, AllocError> {
     match judge_body(t, counter, body) {
@@ -165,65 +148,15 @@ fn parts_line(heap: Global, t: u32, body: &[u8], counter: Counter) -> Result<Str
     Ok(parts.text)
 }
 
-fn field_line(heap: Global, t: u32, body: &[u8], n: usize) -> Result<String, AllocError> {
-    match read_field(t, body, n) {
-        Ok(Field::Number(x)) => format!(heap, "ok number {x}"),
-        Ok(Field::Signed(x)) => format!(heap, "ok signed {x}"),
-        Ok(Field::Run(run)) => {
-            let mut text = String::from_str(heap, "ok run ")?;
-            push_hex(&mut text, run)?;
-            if let Ok((at, _)) = field_place(t, body, n) {
-                let end = at.saturating_add(run.len());
-                text.push_str(format!(heap, " {at} {end}")?.as_str())?;
-            }
-            Ok(text)
-        }
-        Err(fault) => refused(heap, &fault),
-    }
-}
-
-fn value_of<'a>(sort: Option<&str>, word: Option<&str>, run: &'a [u8]) -> Field<'a> {
-    match sort {
-        Some("signed") => Field::Signed(signed(word).unwrap_or(0)),
-        Some("run") => Field::Run(run),
-        _ => Field::Number(number(word).unwrap_or(0)),
-    }
-}
-
-fn set_line(
-    heap: Global,
-    t: u32,
-    body: &mut [u8],
-    n: usize,
-    value: Field<'_>,
-) -> Result<String, AllocError> {
-    let mut text = match set_field(t, body, n, value) {
-        Ok(()) => String::from_str(heap, "ok")?,
-        Err(fault) => refused(heap, &fault)?,
-    };
-    text.push(' ')?;
-    push_hex(&mut text, body)?;
-    Ok(text)
-}
-
-// What a command answers, if it is one.
-pub fn answer_line(heap: Global, line: &str) -> Result<String, AllocError> {
-    let mut words = line.split_whitespace();
-    let name = words.next();
-    let t = data_type(words.next()).unwrap_or(0);
-    let mut body = bytes_of(heap, words.next().unwrap_or("-"))?;
-    let last = words.next();
-    let n = number(last).unwrap_or(0) as usize;
+// The answer to a question about a body, if the line is one.
+pub fn body_answer(heap: Global, line: &str) -> Option<String> {
+    let mut words = Words::of(line);
+    let name = words.word()?;
+    let t = words.number()?;
+    let body = words.bytes(heap)?;
     match name {
-        Some("judge") => judge_line(heap, t, &body, counter(last)),
-        Some("parts") => parts_line(heap, t, &body, counter(last)),
-        Some("field") => field_line(heap, t, &body, n),
-        Some("set") => {
-            let sort = words.next();
-            let word = words.next();
-            let run = bytes_of(heap, word.unwrap_or("-"))?;
-            set_line(heap, t, &mut body, n, value_of(sort, word, &run))
-        }
-        _ => String::from_str(heap, "unknown"),
+        "judge" => judge_line(heap, t, &body, words.counter()?).ok(),
+        "parts" => parts_line(heap, t, &body, words.counter()?).ok(),
+        _ => None,
     }
 }

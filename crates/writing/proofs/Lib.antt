@@ -1,0 +1,3 @@
+pub mod Fronts
+pub mod Openings
+pub mod Puts

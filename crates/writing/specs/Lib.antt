@@ -1,0 +1,5 @@
+pub mod Refusals
+pub mod Parts
+pub mod Written
+pub mod Opened
+pub mod Outputs
