@@ -1,4 +1,6 @@
 // Worked examples of listings, clear boundaries and settings, proved of the definitions that the library promises.
+#![tactic(auto)]
+
 ghost use Rattle.std.specs.Prelude.{◌≡◌, length};
 ghost use Rattle.std.specs.List.{AllByRecursion as All};
 ghost use Rattle.examples.specs.Examples.{Holds, examples};

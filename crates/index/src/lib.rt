@@ -1,4 +1,6 @@
 // An index of a recording: how far it was read, and how many rows it holds.
+#![tactic(auto)]
+
 ghost use Rattle.std.specs.Prelude.{◌≡◌, ◌≤◌};
 
 use recording::Store;

@@ -1,4 +1,6 @@
 // Index files: the rows of a listing, and how far it came.
+#![tactic(auto)]
+
 mod body;
 pub mod counts;
 pub mod file;

@@ -1,4 +1,6 @@
 // Lists a short recording, and writes its rows as lines of text.
+#![tactic(auto)]
+
 ghost use Rattle.std.specs.Prelude.{◌≡◌, ◌≤◌, length, IfOk, vec_len, string_bytes};
 ghost use Rattle.lister.specs.declared.ListError.TheVariants.{Memory};
 ghost use Rattle.lister.specs.Listed.{Ends, Lists};

@@ -1,4 +1,6 @@
 // Lists the sentences of the NMEA 0183 log on standard input.
+#![tactic(auto)]
+
 use lister::print::print_listing;
 use records::sentences::Sentences;
 use std::io;

@@ -1,4 +1,6 @@
 // Bodies of pings and profiles: sonar, profile, sonar and profile, multi sonar.
+#![tactic(auto)]
+
 pub mod fault;
 pub mod multi;
 mod numbers;

@@ -1,4 +1,6 @@
 // A recording is a list of cells, and a store is what holds one.
+#![tactic(auto)]
+
 ghost use Rattle.std.specs.Prelude.{◌≡◌, ℕ, ◌≤◌, true, ◌↔◌, List, length};
 ghost use Rattle.recording.specs.declared.Cell.{Cell};
 ghost use Rattle.recording.specs.Cells.{cell_at, is_byte, whole_from, Bytes, whole_everywhere, Stand};

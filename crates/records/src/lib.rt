@@ -1,4 +1,6 @@
 // Record kinds: what a record is, and how tuples and sentences are known.
+#![tactic(auto)]
+
 pub mod bytes;
 pub mod kind;
 mod search;

@@ -1,4 +1,6 @@
 // What a refusal tells: its number, and the place that it is about.
+#![tactic(auto)]
+
 ghost use Rattle.std.specs.Prelude.{◌≡◌};
 ghost use Rattle.refusals.specs.declared.Notice.{Notice};
 

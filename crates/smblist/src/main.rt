@@ -1,4 +1,6 @@
 // Lists the tuples of the SMB recording on standard input.
+#![tactic(auto)]
+
 use lister::print::print_listing;
 use records::tuples::Tuples;
 use std::io;

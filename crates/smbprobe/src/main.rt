@@ -20,6 +20,8 @@
 //   opent HEX                                  a tuple taken apart
 // HEX is `-` for no bytes. BUFFER is the length of a buffer, which the answer shows last.
 // An index is closed by the next line that sets up a recording, writes a tuple or opens another.
+#![tactic(auto)]
+
 mod answer;
 mod body;
 mod console;

@@ -1,6 +1,8 @@
 // Lists a recording again and again, and tells how long the quickest round took.
 //   smbspeed RECORDING tuples|sentences ROUNDS
 // A recording with more rows than a table holds is listed by one index after the other, each over what is left.
+#![tactic(auto)]
+
 use anyhow::{Context, anyhow};
 use index::Index;
 use indexfile::row::Row;

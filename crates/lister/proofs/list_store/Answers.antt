@@ -6,7 +6,7 @@ use Rattle.lister.proofs.list_store.Goals as goal
 
 pub returns : goal.returns
 returns g c =
-    let e = c.read-whole-counts.ensures in
-    let n = c.read-whole-counts.result in
-    let after = c.read-whole-counts.new.table in
-    (omega arith, subst (λ t. Ends (g.K.RecordKind.stands c.args.kind) (g.S.Store.cells c.args.store) (at n.place n.skipped n.rows t)) (sym (with_items_is c.in-ok-table.table after (c.read-whole-counts.auto.table ∙ c.deref-mut.ensures.len))) e)
+    let e = c.read_whole-counts.ensures in
+    let n = c.read_whole-counts.result in
+    let after = c.read_whole-counts.new.table in
+    (omega arith, subst (λ t. Ends (g.K.RecordKind.stands c.args.kind) (g.S.Store.cells c.args.store) (at n.place n.skipped n.rows t)) (sym (with_items_is c.in_ok-table.table after (c.read_whole-counts.auto.table ∙ c.deref_mut.ensures.len))) e)

@@ -7,5 +7,5 @@ pub returns : goal.returns
 returns c =
     record {
       value = search rules;
-      law = set_law c.args.data_type c.args.n (means c.args.value) c.args.body.now (c.in-ok-at.at, c.in-ok-at.letter) c.put-value.result c.put-value.new.s (sym c.in-ok-at.ensures.value) c.in-ok-at.ensures.within c.put-value.ensures;
+      law = set_law c.args.data_type c.args.n (means c.args.value) c.args.body.now (c.in_ok-at.at, c.in_ok-at.letter) c.put_value.result c.put_value.new.s (sym c.in_ok-at.ensures.value) c.in_ok-at.ensures.within c.put_value.ensures;
     }

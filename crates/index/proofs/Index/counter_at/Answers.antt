@@ -13,4 +13,4 @@ returns-then-n-gt-LONGEST g c = sym (too_long (g.S.Store.cells c.args.self.now.s
 pub returns : goal.returns
 returns g c =
     let cs = g.S.Store.cells c.args.self.now.store in
-    c.counter-in.ensures ∙ ap counter_in (ap (λ z. take (c.args.x.length - 16 - 0) z) c.copy.ensures ∙ front cs (c.args.x.place + 14) (c.args.x.length - 16) _ (omega (arith, c.requires)) ∙ sym (body_at cs c.args.x))
+    c.counter_in.ensures ∙ ap counter_in (ap (λ z. take (c.args.x.length - 16 - 0) z) c.copy.ensures ∙ front cs (c.args.x.place + 14) (c.args.x.length - 16) _ (omega (arith, c.requires)) ∙ sym (body_at cs c.args.x))

@@ -2,8 +2,8 @@ use Rattle.std.proofs.Common.{sym, arith}
 use Rattle.listing.proofs.Inside.{inside}
 use Rattle.index.proofs.Index.turn.Goals as goal
 
-pub overflow-add-self-then-self-table-2 : goal.overflow-add-self-then-self-table-2
-overflow-add-self-then-self-table-2 g c =
+pub overflow_add-self-then-self-table-2 : goal.overflow_add-self-then-self-table-2
+overflow_add-self-then-self-table-2 g c =
     let h = inside (g.K.RecordKind.laws _) _ _ _ c.in-Some.ensures in
     omega (arith, g.S.Store.bounded c.args.self.now.store)
 

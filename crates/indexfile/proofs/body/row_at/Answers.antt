@@ -4,4 +4,4 @@ use Rattle.indexfile.specs.Files.{row_of}
 use Rattle.indexfile.proofs.body.row_at.Goals as goal
 
 pub returns : goal.returns
-returns c = c.row-of.ensures ∙ ap row_of (take_rest c.args.bytes.now (16 + 20 * c.args.n))
+returns c = c.row_of.ensures ∙ ap row_of (take_rest c.args.bytes.now (16 + 20 * c.args.n))

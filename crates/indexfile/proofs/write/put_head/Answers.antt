@@ -9,10 +9,10 @@ returns c =
     let two = one ++ bytes_of 4 16 in
     let three = two ++ bytes_of 4 c.args.place in
     let s = c.args.s.now in
-    then_set s c.put-double-3.new.s _ 0 12 three (bytes_of 4 c.args.skipped)
+    then_set s c.put_double-3.new.s _ 0 12 three (bytes_of 4 c.args.skipped)
     (
-    then_set s c.put-double-2.new.s _ 0 8 two (bytes_of 4 c.args.place)
-    (then_set s c.put-double.new.s _ 0 4 one (bytes_of 4 16) c.put-double.ensures c.put-double-2.ensures (omega arith) (omega arith))
-    c.put-double-3.ensures (omega arith) (omega arith)
+    then_set s c.put_double-2.new.s _ 0 8 two (bytes_of 4 c.args.place)
+    (then_set s c.put_double.new.s _ 0 4 one (bytes_of 4 16) c.put_double.ensures c.put_double-2.ensures (omega arith) (omega arith))
+    c.put_double-3.ensures (omega arith) (omega arith)
     )
-    c.put-double-4.ensures (omega arith) (omega arith)
+    c.put_double-4.ensures (omega arith) (omega arith)

@@ -13,11 +13,11 @@ returns c =
     let three = two ++ bytes_of 4 x.tag in
     let four = three ++ bytes_of 2 x.source_type in
     let five = four ++ bytes_of 2 x.source_id in
-    let p = then_set s c.put-double.new.s _ at (at + 4) one (bytes_of 4 x.length) c.put-double.ensures c.put-double-2.ensures (omega arith) (omega arith) in
-    let q = then_set s c.put-double-2.new.s _ at (at + 8) two (bytes_of 4 x.tag) p c.put-double-3.ensures (omega arith) (omega arith) in
-    let r = then_set s c.put-double-3.new.s _ at (at + 12) three (bytes_of 2 x.source_type) q c.put-word.ensures (omega arith) (omega arith) in
-    let t = then_set s c.put-word.new.s _ at (at + 14) four (bytes_of 2 x.source_id) r c.put-word-2.ensures (omega arith) (omega arith) in
+    let p = then_set s c.put_double.new.s _ at (at + 4) one (bytes_of 4 x.length) c.put_double.ensures c.put_double-2.ensures (omega arith) (omega arith) in
+    let q = then_set s c.put_double-2.new.s _ at (at + 8) two (bytes_of 4 x.tag) p c.put_double-3.ensures (omega arith) (omega arith) in
+    let r = then_set s c.put_double-3.new.s _ at (at + 12) three (bytes_of 2 x.source_type) q c.put_word.ensures (omega arith) (omega arith) in
+    let t = then_set s c.put_word.new.s _ at (at + 14) four (bytes_of 2 x.source_id) r c.put_word-2.ensures (omega arith) (omega arith) in
     record {
-      bytes = then_set s c.put-word-2.new.s _ at (at + 16) five (bytes_of 4 x.time) t c.put-double-4.ensures (omega arith) (omega arith);
+      bytes = then_set s c.put_word-2.new.s _ at (at + 16) five (bytes_of 4 x.time) t c.put_double-4.ensures (omega arith) (omega arith);
       wide = search rules;
     }

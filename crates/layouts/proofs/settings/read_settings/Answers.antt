@@ -7,5 +7,5 @@ pub returns : goal.returns
 returns c =
     let low : 1 ≤ get_or c.args.body.now 13 0 = search rules in
     let high : get_or c.args.body.now 13 0 ≤ 11 = search rules in
-    let long : length c.args.body.now ≡ length_of (get_or c.args.body.now 13 0) c.is-altimeter.result = search rules in
-    record { value = search rules; whole = long ∙ sym (settings_total (get_or c.args.body.now 13 0) c.is-altimeter.result low high) }
+    let long : length c.args.body.now ≡ length_of (get_or c.args.body.now 13 0) c.is_altimeter.result = search rules in
+    record { value = search rules; whole = long ∙ sym (settings_total (get_or c.args.body.now 13 0) c.is_altimeter.result low high) }

@@ -2,13 +2,13 @@ use Rattle.std.proofs.Common.{◌+◌, ◌*◌, Some, sym, ap, ◌∙◌, arith}
 use Rattle.records.specs.ReadingLaws.{within, no_pair, the_pair}
 use Rattle.records.proofs.bytes.pair.Goals as goal
 
-pub overflow-add-at : goal.overflow-add-at
-overflow-add-at g c = omega (arith, within _ c.args.at _ (sym c.in-ok-low.ensures), g.S.Store.bounded c.args.store.now)
+pub overflow_add-at : goal.overflow_add-at
+overflow_add-at g c = omega (arith, within _ c.args.at _ (sym c.in_ok-low.ensures), g.S.Store.bounded c.args.store.now)
 
-pub returns-in-err-high : goal.returns-in-err-high
-returns-in-err-high g c = c.from-residual-in-err-high.ensures ∙ sym (no_pair (g.S.Store.cells c.args.store.now) c.args.at _ (sym c.in-ok-low.ensures) (sym c.in-err-high.ensures))
+pub returns-in_err-high : goal.returns-in_err-high
+returns-in_err-high g c = c.from_residual-in_err-high.ensures ∙ sym (no_pair (g.S.Store.cells c.args.store.now) c.args.at _ (sym c.in_ok-low.ensures) (sym c.in_err-high.ensures))
 
 pub returns : goal.returns
 returns g c =
     (λ j. Some (c.from.ensures j + 256 * c.from-2.ensures j))
-    ∙ sym (the_pair (g.S.Store.cells c.args.store.now) c.args.at _ (sym c.in-ok-low.ensures) _ (sym c.in-ok-high.ensures))
+    ∙ sym (the_pair (g.S.Store.cells c.args.store.now) c.args.at _ (sym c.in_ok-low.ensures) _ (sym c.in_ok-high.ensures))

@@ -12,4 +12,4 @@ returns g c =
     let bs = bytes_from cs c.args.at in
     let all = all_bytes (drop c.args.at cs) in
     let same : take (c.front-n.result - 0) c.front-n.new.bytes ≡ take 82 bs = ap (λ n. take n c.front-n.new.bytes) (omega arith) ∙ c.front-n.ensures.front in
-    c.sentence-length.ensures.value ∙ ap (option_map (λ x. x.length)) (ap sentence same ∙ front_decides 82 sentence sentence_reads bs all (all_taken 82 bs all))
+    c.sentence_length.ensures.value ∙ ap (option_map (λ x. x.length)) (ap sentence same ∙ front_decides 82 sentence sentence_reads bs all (all_taken 82 bs all))

@@ -5,17 +5,17 @@ use Rattle.records.specs.GrammarLaws.{bytes_within}
 use Rattle.records.specs.ReadingLaws.{byte_next, byte_end}
 use Rattle.records.proofs.sentences.front.Goals as goal
 
-pub overflow-add-at : goal.overflow-add-at
-overflow-add-at g c =
+pub overflow_add-at : goal.overflow_add-at
+overflow_add-at g c =
     let cs = g.S.Store.cells c.args.store.now in
     omega (arith, c.loop-i.invariant.0, bytes_within (drop c.args.at cs), length-drop c.args.at cs, g.S.Store.bounded c.args.store.now)
 
-pub returns-in-default : goal.returns-in-default
-returns-in-default g c =
+pub returns-in_default : goal.returns-in_default
+returns-in_default g c =
     let cs = g.S.Store.cells c.args.store.now in
     let bs = bytes_from cs c.args.at in
     let i = c.loop-i.i in
-    let end = byte_end cs c.args.at (c.args.at + i) i refl c.loop-i.invariant.0 (sym c.in-default.ensures) in
+    let end = byte_end cs c.args.at (c.args.at + i) i refl c.loop-i.invariant.0 (sym c.in_default.ensures) in
     record { within = omega arith; front = c.loop-i.invariant.1 ∙ take_all i bs (omega arith) ∙ sym (take_all 82 bs (omega arith)) }
 
 pub loop-i-preserved : goal.loop-i-preserved

@@ -11,7 +11,7 @@ closed : (rest : List ℕ) (k sum : ℕ) (t : Bool) → t ≡ begins (closing su
 closed rest k sum t e = ap (begins (closing sum)) (sym (take_all _ (drop (k + 1) rest) (omega (arith, length-drop (k + 1) rest)))) ∙ sym e
 
 pub loop-k-init : goal.loop-k-init
-loop-k-init c = (c.ranges.name-sum.fits, tail_start c.args.name-sum c.args.rest.now)
+loop-k-init c = (c.ranges.name_sum.fits, tail_start c.args.name_sum c.args.rest.now)
 
 pub returns-then-closes : goal.returns-then-closes
 returns-then-closes c =

@@ -11,7 +11,7 @@ returns-in-Err c =
     record { is = e; says = checked c.args.self.now.image.now rows _ e }
 
 pub loop-i-preserved : goal.loop-i-preserved
-loop-i-preserved c = bad_more c.args.self.now.rows.now c.loop-i.i c.in-default.field-0 (omega arith) (sym c.in-default.is ∙ c.judge.ensures) ∙ c.loop-i.invariant
+loop-i-preserved c = bad_more c.args.self.now.rows.now c.loop-i.i c.in_default.field-0 (omega arith) (sym c.in_default.is ∙ c.judge.ensures) ∙ c.loop-i.invariant
 
 pub returns : goal.returns
 returns c =

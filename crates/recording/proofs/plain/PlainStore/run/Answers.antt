@@ -4,8 +4,8 @@ use Rattle.recording.specs.Cells.{length-bytes}
 use Rattle.recording.proofs.Lists.{at_bytes}
 use Rattle.recording.proofs.plain.PlainStore.run.Goals as goal
 
-pub slice-bounds-result-end : goal.slice-bounds-result-end
-slice-bounds-result-end c = omega (arith, c.len-end.ensures, length-bytes (take 2147483647 c.args.self.now.bytes.now), length-take 2147483647 c.args.self.now.bytes.now)
+pub slice_bounds-result-end : goal.slice_bounds-result-end
+slice_bounds-result-end c = omega (arith, c.len-end.ensures, length-bytes (take 2147483647 c.args.self.now.bytes.now), length-take 2147483647 c.args.self.now.bytes.now)
 
 pub returns-then-at-end : goal.returns-then-at-end
 returns-then-at-end c k h =

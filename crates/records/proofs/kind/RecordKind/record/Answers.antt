@@ -12,4 +12,4 @@ joined (Some x) n d e told = let same : n ≡ x.length = cc in ap (λ m. Some (r
 
 pub returns-in-Some : goal.returns-in-Some
 returns-in-Some g c =
-    ap Some (c.with-length.ensures ∙ ap (record_of _) c.details.ensures) ∙ joined _ _ _ c.in-Some.ensures (g.Self.RecordKind.told c.args.self.now (g.S.Store.cells c.args.store.now) c.args.at)
+    ap Some (c.with_length.ensures ∙ ap (record_of _) c.details.ensures) ∙ joined _ _ _ c.in-Some.ensures (g.Self.RecordKind.told c.args.self.now (g.S.Store.cells c.args.store.now) c.args.at)

@@ -7,5 +7,5 @@ use Rattle.records.proofs.sentences.SentencesRecordKind.test.Goals as goal
 
 pub returns-else-run-lt-LONGEST : goal.returns-else-run-lt-LONGEST
 returns-else-run-lt-LONGEST g c =
-    c.sentence-length.ensures.value
-    ∙ ap (option_map (λ x. x.length)) (run_decides 82 sentence sentence_reads (g.S.Store.cells c.args.store.now) c.args.at c.run-run.result.now c.if-run-lt-LONGEST.false c.run-run.ensures c.sentence-length.ensures.wide)
+    c.sentence_length.ensures.value
+    ∙ ap (option_map (λ x. x.length)) (run_decides 82 sentence sentence_reads (g.S.Store.cells c.args.store.now) c.args.at c.run-run.result.now c.if-run-lt-LONGEST.false c.run-run.ensures c.sentence_length.ensures.wide)

@@ -4,5 +4,5 @@ use Rattle.records.proofs.tuples.TuplesRecordKind.vacant.Goals as goal
 pub returns : goal.returns
 returns c = record {
   within = unlike_within _ c.args.run.now c.missing.result c.missing.ensures;
-  none = no_tuple c.args.run.now c.missing.result (λ k. (c.type-inv.run k).fits) c.missing.ensures;
+  none = no_tuple c.args.run.now c.missing.result (λ k. (c.type_inv.run k).fits) c.missing.ensures;
 }

@@ -8,9 +8,9 @@ returns c =
     let h = c.args.header in
     let body = c.args.body.now in
     let before = vec_items c.args.self.now.bytes in
-    let after = vec_items c.extend-from-slice-3.new.self in
+    let after = vec_items c.extend_from_slice-3.new.self in
     let few : length body ≤ 65535 = omega (arith, c.if-body-gt-LONGEST.false) in
     let room : length before + (length body + 16) ≤ 2147483647 = omega (arith, c.if-len-body-gt-LIMIT.false, c.len.ensures, c.args.self.now.bytes.ok.0) in
     let e : after ≡ before ++ written h body =
-    in_pieces h _ body before (vec_items c.reserve.new.self) (vec_items c.extend-from-slice.new.self) (vec_items c.extend-from-slice-2.new.self) after c.front-bytes.result c.to-le-bytes.result c.in-ok-reserve.ensures.items c.in-ok-extend-from-slice.ensures.items c.front-bytes.ensures.value c.in-ok-extend-from-slice-2.ensures.items c.in-ok-extend-from-slice-3.ensures.items c.to-le-bytes.ensures (search rules) in
-    record { value = put_whole h body before after few room e; law = adds h body before after c.front-bytes.ensures.wide few e (still_short h body before after room e) }
+    in_pieces h _ body before (vec_items c.reserve.new.self) (vec_items c.extend_from_slice.new.self) (vec_items c.extend_from_slice-2.new.self) after c.front_bytes.result c.to_le_bytes.result c.in_ok-reserve.ensures.items c.in_ok-extend_from_slice.ensures.items c.front_bytes.ensures.value c.in_ok-extend_from_slice-2.ensures.items c.in_ok-extend_from_slice-3.ensures.items c.to_le_bytes.ensures (search rules) in
+    record { value = put_whole h body before after few room e; law = adds h body before after c.front_bytes.ensures.wide few e (still_short h body before after room e) }
