@@ -1,3 +1,4 @@
 pub mod TupleTests
 pub mod SentenceTests
 pub mod Searches
+pub mod Details

@@ -91,3 +91,8 @@ byte_from cs p = unwrap_or (first (bytes_from cs p)) 0
 -- what is read beside the length
 abbrev pub sentence_details : List Cell → ℕ → Details
 sentence_details cs p = record { tag = byte_from cs (p + 3) * 65536 + (byte_from cs (p + 4) * 256 + byte_from cs (p + 5)); source_type = 0; source_id = 0; time = 0 }
+
+-- a first byte that may stand in the address
+abbrev pub named : List ℕ → Option ℕ
+named [] = None
+named (b ∷ bs) = cond (name_char b) (Some b) None

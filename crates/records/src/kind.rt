@@ -1,9 +1,6 @@
 // What a record kind is.
-ghost use Rattle.std.specs.Prelude.{◌≡◌, ℕ, ◌≤◌, List, length, Some};
+ghost use Rattle.std.specs.Prelude.{◌≡◌, ℕ, ◌≤◌, length};
 ghost use Rattle.std.specs.Option.{option_map};
-ghost use Rattle.recording.specs.declared.Cell.{Cell};
-ghost use Rattle.records.specs.declared.kind.Details.{Details};
-ghost use Rattle.records.specs.declared.kind.Record.{Record};
 ghost use Rattle.records.specs.Records.{Meaning, Laws, record_of, Vacant};
 
 use recording::Store;
@@ -19,17 +16,17 @@ pub struct Record {
 }
 
 // What a record tells beside its length.
-#[derive(Clone, Copy, Debug, PartialEq, Eq)]
-pub struct Details {
-    pub tag: u32,
-    pub source_type: u16,
-    pub source_id: u16,
-    pub time: u32,
+#[derive(Clone, Copy)]
+pub(crate) struct Details {
+    pub(crate) tag: u32,
+    pub(crate) source_type: u16,
+    pub(crate) source_id: u16,
+    pub(crate) time: u32,
 }
 
 impl Details {
     // The record of these details that has a length.
-    pub fn with_length(&self, length: u32) -> Record
+    pub(crate) fn with_length(&self, length: u32) -> Record
         ensures { result ≡ record_of length self.now }
     {
         Record {
@@ -51,11 +48,6 @@ pub trait RecordKind {
 
     ghost laws: { (k : Self) → Laws longest (stands k) };
 
-    // what is read at a place beside a length: of a record that stands there, what it tells
-    ghost details: { Self → List Cell → ℕ → Details };
-
-    ghost told: { (k : Self) (cs : List Cell) (p : ℕ) (x : Record) → stands k cs p ≡ Some x → record_of x.length (details k cs p) ≡ x };
-
     fn longest(&self) -> u32
         ensures { result ≡ longest };
 
@@ -63,19 +55,9 @@ pub trait RecordKind {
     fn test<S: Store>(&self, store: &S, at: u32) -> Option<u32>
         ensures { result ≡ option_map (λ x. x.length) (stands self.now (S.Store.cells store.now) at) };
 
-    // What the record at the place tells beside its length. Where none stands, it says nothing.
-    fn details<S: Store>(&self, store: &S, at: u32) -> Details
-        ensures { result ≡ details self.now (S.Store.cells store.now) at };
-
     // The record that stands at the place.
     fn record<S: Store>(&self, store: &S, at: u32) -> Option<Record>
-        ensures { result ≡ stands self.now (S.Store.cells store.now) at }
-    {
-        match self.test(store, at) {
-            Some(length) => Some(self.details(store, at).with_length(length)),
-            None => None,
-        }
-    }
+        ensures { result ≡ stands self.now (S.Store.cells store.now) at };
 
     // How many places at the front of a run of bytes no record begins at, wherever the run stands. It may be
     // less than there are: 0 is always true.

@@ -4,10 +4,10 @@ ghost use Rattle.std.specs.Option.{option_map};
 ghost use Rattle.records.specs.Grammars.{bytes_from, meaning};
 ghost use Rattle.records.specs.Sentences.{name_char, text_char, char_at, hex_digit, closing, begins};
 ghost use Rattle.records.specs.Sentences.{dollar, tail_of, sentence, byte_from, sentence_details};
-ghost use Rattle.records.specs.SentenceLaws.{sentence_laws, sentence_told};
+ghost use Rattle.records.specs.SentenceLaws.{sentence_laws};
 
 use crate::bytes::byte;
-use crate::kind::{Details, RecordKind};
+use crate::kind::{Details, Record, RecordKind};
 use crate::search::Pair;
 use recording::Store;
 
@@ -156,6 +156,42 @@ fn byte_or_zero<S: Store>(store: &S, at: u32, skip: u32) -> u8
     }
 }
 
+// What is read of a sentence beside its length.
+fn details<S: Store>(store: &S, at: u32) -> Details
+    ensures { result ≡ sentence_details (S.Store.cells store.now) at }
+{
+    let c = byte_or_zero(store, at, 3);
+    let d = byte_or_zero(store, at, 4);
+    let e = byte_or_zero(store, at, 5);
+    Details {
+        tag: c as u32 * 65536 + (d as u32 * 256 + e as u32),
+        source_type: 0,
+        source_id: 0,
+        time: 0,
+    }
+}
+
+// The length of the sentence at a place: told by the bytes that the store has at hand, or by a copy of them.
+fn length_at<S: Store>(store: &S, at: u32) -> Option<u32>
+    ensures { result ≡ option_map (λ x. x.length) (meaning sentence (S.Store.cells store.now) at) }
+{
+    let run = store.run(at);
+    if run.len() < LONGEST {
+        copied_length(store, at)
+    } else {
+        sentence_length(run)
+    }
+}
+
+fn sentence_at<S: Store>(store: &S, at: u32) -> Option<Record>
+    ensures { result ≡ meaning sentence (S.Store.cells store.now) at }
+{
+    match length_at(store, at) {
+        Some(length) => Some(details(store, at).with_length(length)),
+        None => None,
+    }
+}
+
 impl RecordKind for Sentences {
     ghost longest = { 82 };
 
@@ -163,34 +199,18 @@ impl RecordKind for Sentences {
 
     ghost laws = { λ _. sentence_laws };
 
-    ghost details = { λ _. sentence_details };
-
-    ghost told = { λ _. sentence_told };
-
     fn longest(&self) -> u32 {
-        LONGEST as u32
+        82
     }
 
     fn test<S: Store>(&self, store: &S, at: u32) -> Option<u32> {
-        let run = store.run(at);
-        if run.len() < LONGEST {
-            copied_length(store, at)
-        } else {
-            sentence_length(run)
-        }
+        length_at(store, at)
     }
 
-    fn details<S: Store>(&self, store: &S, at: u32) -> Details {
-        let c = byte_or_zero(store, at, 3);
-        let d = byte_or_zero(store, at, 4);
-        let e = byte_or_zero(store, at, 5);
-        Details {
-            tag: c as u32 * 65536 + (d as u32 * 256 + e as u32),
-            source_type: 0,
-            source_id: 0,
-            time: 0,
-        }
+    fn record<S: Store>(&self, store: &S, at: u32) -> Option<Record> {
+        sentence_at(store, at)
     }
+
     // No sentence begins where no `$` stands.
     fn vacant(&self, run: &[u8]) -> usize {
         DOLLAR.missing(run)

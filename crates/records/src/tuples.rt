@@ -3,10 +3,10 @@ ghost use Rattle.std.specs.Prelude.{◌≡◌, ◌+◌, ◌<◌, true, is_some};
 ghost use Rattle.std.specs.Option.{option_map};
 ghost use Rattle.records.specs.Grammars.{bytes_from, meaning};
 ghost use Rattle.records.specs.Tuples.{sync_mark, tuple, pair_from, tuple_details};
-ghost use Rattle.records.specs.TupleLaws.{tuple_laws, tuple_told};
+ghost use Rattle.records.specs.TupleLaws.{tuple_laws};
 
 use crate::bytes::{byte, pair};
-use crate::kind::{Details, RecordKind};
+use crate::kind::{Details, Record, RecordKind};
 use crate::search::Pair;
 use recording::Store;
 
@@ -74,16 +74,35 @@ fn pair_or_zero<S: Store>(store: &S, at: u32, skip: u32) -> u16
     }
 }
 
+// What is read of a tuple beside its length.
+fn details<S: Store>(store: &S, at: u32) -> Details
+    ensures { result ≡ tuple_details (S.Store.cells store.now) at }
+{
+    let low_time = pair_or_zero(store, at, 8);
+    let high_time = pair_or_zero(store, at, 10);
+    Details {
+        tag: pair_or_zero(store, at, 6) as u32,
+        source_type: pair_or_zero(store, at, 2),
+        source_id: pair_or_zero(store, at, 4),
+        time: low_time as u32 + 65536 * high_time as u32,
+    }
+}
+
+fn tuple_at<S: Store>(store: &S, at: u32) -> Option<Record>
+    ensures { result ≡ meaning tuple (S.Store.cells store.now) at }
+{
+    match tuple_length(store, at) {
+        Some(length) => Some(details(store, at).with_length(length)),
+        None => None,
+    }
+}
+
 impl RecordKind for Tuples {
     ghost longest = { 65551 };
 
     ghost stands = { λ _. meaning tuple };
 
     ghost laws = { λ _. tuple_laws };
-
-    ghost details = { λ _. tuple_details };
-
-    ghost told = { λ _. tuple_told };
 
     // The longest body has 65,535 bytes.
     fn longest(&self) -> u32 {
@@ -94,16 +113,10 @@ impl RecordKind for Tuples {
         tuple_length(store, at)
     }
 
-    fn details<S: Store>(&self, store: &S, at: u32) -> Details {
-        let low_time = pair_or_zero(store, at, 8);
-        let high_time = pair_or_zero(store, at, 10);
-        Details {
-            tag: pair_or_zero(store, at, 6) as u32,
-            source_type: pair_or_zero(store, at, 2),
-            source_id: pair_or_zero(store, at, 4),
-            time: low_time as u32 + 65536 * high_time as u32,
-        }
+    fn record<S: Store>(&self, store: &S, at: u32) -> Option<Record> {
+        tuple_at(store, at)
     }
+
     // No tuple begins where the bytes of Sync do not stand.
     fn vacant(&self, run: &[u8]) -> usize {
         SYNC.missing(run)

@@ -3,7 +3,7 @@ use Rattle.std.specs.Option.{option_map}
 use Rattle.records.specs.ReadingLaws.{run_decides}
 use Rattle.records.specs.Sentences.{sentence}
 use Rattle.records.specs.SentenceLaws.{sentence_reads}
-use Rattle.records.proofs.sentences.SentencesRecordKind.test.Goals as goal
+use Rattle.records.proofs.sentences.length_at.Goals as goal
 
 pub returns-else-run-lt-LONGEST : goal.returns-else-run-lt-LONGEST
 returns-else-run-lt-LONGEST g c =
