@@ -1,3 +1,4 @@
 pub mod Scans
 pub mod Visiting
 pub mod Inspects
+pub mod Vacancies

@@ -15,7 +15,7 @@ use Rattle.index.specs.Calls.{Made, Ran, Opened, Serves}
 use Rattle.listing.proofs.Walks.{used}
 
 -- x has come to y with i of the visits made: what is noted so far is followed by what the others will answer
-pub record Sofar {S K : Type 0} (s : Stores S) (k : Kinds K) (vs : List Visit) (x : Index S K) (table : List Row) (buffer : List ℕ) (i : ℕ) (noted : List Visit) (y : Index S K) (left : List Row) (filled : List ℕ) : Type 0 where
+pub record Sofar {S K : Type 0} (s : Stores S) (k : Kinds K) (vs : List Visit) (x : Index S K s k) (table : List Row) (buffer : List ℕ) (i : ℕ) (noted : List Visit) (y : Index S K s k) (left : List Row) (filled : List ℕ) : Type 0 where
   pub store : y.store ≡ x.store
   pub kind : y.kind ≡ x.kind
   pub size : length noted ≡ length vs
@@ -24,12 +24,12 @@ pub record Sofar {S K : Type 0} (s : Stores S) (k : Kinds K) (vs : List Visit) (
   pub bytes : buffered (meaning_of k x) (cells_of s x) (drop i vs) filled (progress y left) ≡ buffered (meaning_of k x) (cells_of s x) vs buffer (progress x table)
   pub moved : visited (meaning_of k x) (cells_of s x) (drop i vs) (progress y left) ≡ visited (meaning_of k x) (cells_of s x) vs (progress x table)
 
-module _ {S K : Type 0} {s : Stores S} {k : Kinds K} {vs : List Visit} {x : Index S K} {table : List Row} {buffer : List ℕ} where
+module _ {S K : Type 0} {s : Stores S} {k : Kinds K} {vs : List Visit} {x : Index S K s k} {table : List Row} {buffer : List ℕ} where
   pub start_of : Sofar s k vs x table buffer 0 vs x table buffer
   start_of = record { store = refl; kind = refl; size = refl; others = refl; answers = refl; bytes = refl; moved = refl }
 
-  module _ {i : ℕ} {noted : List Visit} {y : Index S K} {left : List Row} {filled : List ℕ} (sofar : Sofar s k vs x table buffer i noted y left filled) where
-    module _ {r : Answer} {z : Index S K} {last : List Row} {bytes : List ℕ} (d : Visit) (l : i < length vs) (one : Made s k (get_or noted i d).call y left filled r z last bytes) where
+  module _ {i : ℕ} {noted : List Visit} {y : Index S K s k} {left : List Row} {filled : List ℕ} (sofar : Sofar s k vs x table buffer i noted y left filled) where
+    module _ {r : Answer} {z : Index S K s k} {last : List Row} {bytes : List ℕ} (d : Visit) (l : i < length vs) (one : Made s k (get_or noted i d).call y left filled r z last bytes) where
       abbrev m : Meaning
       m = meaning_of k x
 
@@ -88,7 +88,7 @@ visits_join : (m : Meaning) (cs : List Cell) (vs ws : List Visit) (s : Progress)
 visits_join m cs [] ws s = refl
 visits_join m cs (v ∷ vs) ws s = visits_join m cs vs ws (after m cs v.call s)
 
-pub serves : {S K : Type 0} (s : Stores S) (k : Kinds K) → ((a : K) → Laws k.longest (k.stands a)) → {vs : List Visit} {x : Index S K} {table : List Row} {buffer : List ℕ} {noted : List Visit} {y : Index S K} {left : List Row} {filled : List ℕ}
+pub serves : {S K : Type 0} (s : Stores S) (k : Kinds K) → ((a : K) → Laws k.longest (k.stands a)) → {vs : List Visit} {x : Index S K s k} {table : List Row} {buffer : List ℕ} {noted : List Visit} {y : Index S K s k} {left : List Row} {filled : List ℕ}
     → Ran s k vs x table buffer noted y left filled → (start : List Row) → Opened s k start x table → Serves s k start y left
 serves s k laws {vs} {x} {table} {buffer} {noted} {y} {left} {filled} r start v = record { opened = (ws, is); used = subst (Used (meaning_of k y) (cells_of s y) start) (sym is) (used (laws y.kind) (cells_of s y) start ws) }
   where

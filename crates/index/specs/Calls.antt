@@ -15,14 +15,14 @@ use Rattle.index.specs.declared.Index.{Index}
 use Rattle.index.specs.Indexes.{Stores, Kinds, cells_of, meaning_of, stands_at, progress}
 
 -- an index and its table after one turn, after cells at which nothing stands, after a run of turns, and after a scan: over the same store and kind
-pub record Turn {S K : Type 0} (s : Stores S) (k : Kinds K) (x : Index S K) (table : List Row) (r : Bool) (y : Index S K) (after : List Row) : Type 0 where
+pub record Turn {S K : Type 0} (s : Stores S) (k : Kinds K) (x : Index S K s k) (table : List Row) (r : Bool) (y : Index S K s k) (after : List Row) : Type 0 where
   pub store : y.store ≡ x.store
   pub kind : y.kind ≡ x.kind
   pub grows : x.rows ≤ y.rows
   pub went : r ≡ (turned (stands_at s k x x.place) (progress x table)).0
   pub left : progress y after ≡ (turned (stands_at s k x x.place) (progress x table)).1
 
-pub record Pass {S K : Type 0} (s : Stores S) (k : Kinds K) (most : ℕ) (x : Index S K) (n : ℕ) (y : Index S K) : Type 0 where
+pub record Pass {S K : Type 0} (s : Stores S) (k : Kinds K) (most : ℕ) (x : Index S K s k) (n : ℕ) (y : Index S K s k) : Type 0 where
   pub store : y.store ≡ x.store
   pub kind : y.kind ≡ x.kind
   pub few : n ≤ most
@@ -30,27 +30,27 @@ pub record Pass {S K : Type 0} (s : Stores S) (k : Kinds K) (most : ℕ) (x : In
   pub none : (i : ℕ) → i < n → stands_at s k x (x.place + i) ≡ None
   pub left : (table : List Row) → progress y table ≡ at (x.place + n) (x.skipped + n) x.rows table
 
-pub record Turns {S K : Type 0} (s : Stores S) (k : Kinds K) (budget : ℕ) (x : Index S K) (table : List Row) (stop : Stop) (tests : ℕ) (y : Index S K) (after : List Row) : Type 0 where
+pub record Turns {S K : Type 0} (s : Stores S) (k : Kinds K) (budget : ℕ) (x : Index S K s k) (table : List Row) (stop : Stop) (tests : ℕ) (y : Index S K s k) (after : List Row) : Type 0 where
   pub store : y.store ≡ x.store
   pub kind : y.kind ≡ x.kind
   pub grows : x.rows ≤ y.rows
   pub run : outcome stop tests (progress y after) ≡ scanned (meaning_of k x) (cells_of s x) budget 0 (progress x table)
 
-pub record Scan {S K : Type 0} (s : Stores S) (k : Kinds K) (budget : ℕ) (x : Index S K) (table : List Row) (r : Result Scanned ScanRefusal) (y : Index S K) (after : List Row) : Type 0 where
+pub record Scan {S K : Type 0} (s : Stores S) (k : Kinds K) (budget : ℕ) (x : Index S K s k) (table : List Row) (r : Result Scanned ScanRefusal) (y : Index S K s k) (after : List Row) : Type 0 where
   pub store : y.store ≡ x.store
   pub kind : y.kind ≡ x.kind
   pub answer : r ≡ (scanning (meaning_of k x) (cells_of s x) budget (progress x table)).0
   pub left : progress y after ≡ (scanning (meaning_of k x) (cells_of s x) budget (progress x table)).1
 
 -- a call, with all that it leaves
-pub record Made {S K : Type 0} (s : Stores S) (k : Kinds K) (c : Call) (x : Index S K) (table : List Row) (buffer : List ℕ) (r : Answer) (y : Index S K) (left : List Row) (filled : List ℕ) : Type 0 where
+pub record Made {S K : Type 0} (s : Stores S) (k : Kinds K) (c : Call) (x : Index S K s k) (table : List Row) (buffer : List ℕ) (r : Answer) (y : Index S K s k) (left : List Row) (filled : List ℕ) : Type 0 where
   pub store : y.store ≡ x.store
   pub kind : y.kind ≡ x.kind
   pub answer : (r, filled) ≡ called (meaning_of k x) (cells_of s x) c buffer (progress x table)
   pub moved : progress y left ≡ after (meaning_of k x) (cells_of s x) c (progress x table)
 
 -- all calls of a list of visits, with all that they leave
-pub record Ran {S K : Type 0} (s : Stores S) (k : Kinds K) (vs : List Visit) (x : Index S K) (table : List Row) (buffer : List ℕ) (noted : List Visit) (y : Index S K) (left : List Row) (filled : List ℕ) : Type 0 where
+pub record Ran {S K : Type 0} (s : Stores S) (k : Kinds K) (vs : List Visit) (x : Index S K s k) (table : List Row) (buffer : List ℕ) (noted : List Visit) (y : Index S K s k) (left : List Row) (filled : List ℕ) : Type 0 where
   pub store : y.store ≡ x.store
   pub kind : y.kind ≡ x.kind
   pub answers : noted ≡ answered (meaning_of k x) (cells_of s x) vs buffer (progress x table)
@@ -58,10 +58,10 @@ pub record Ran {S K : Type 0} (s : Stores S) (k : Kinds K) (vs : List Visit) (x 
   pub moved : progress y left ≡ visited (meaning_of k x) (cells_of s x) vs (progress x table)
 
 -- an index that was opened with a table as it is given, and visited by some list of calls
-abbrev pub Opened : {S K : Type 0} → Stores S → Kinds K → List Row → Index S K → List Row → Type 0
+abbrev pub Opened : {S K : Type 0} (s : Stores S) (k : Kinds K) → List Row → Index S K s k → List Row → Type 0
 Opened s k start x table = (vs : List Visit) × (progress x table ≡ visited (meaning_of k x) (cells_of s x) vs (unused start))
 
 -- so it is after more of them, and all that is promised after visits holds of it
-pub record Serves {S K : Type 0} (s : Stores S) (k : Kinds K) (start : List Row) (y : Index S K) (left : List Row) : Type 0 where
+pub record Serves {S K : Type 0} (s : Stores S) (k : Kinds K) (start : List Row) (y : Index S K s k) (left : List Row) : Type 0 where
   pub opened : Opened s k start y left
   pub used : Used (meaning_of k y) (cells_of s y) start (progress y left)

@@ -15,16 +15,16 @@ Stores S = StoreGhosts S
 abbrev pub Kinds : Type 0 → Type 1
 Kinds K = KindGhosts K
 
-abbrev pub cells_of : {S K : Type 0} → Stores S → Index S K → List Cell
+abbrev pub cells_of : {S K : Type 0} {k : Kinds K} (s : Stores S) → Index S K s k → List Cell
 cells_of s x = s.cells x.store
 
-abbrev pub meaning_of : {S K : Type 0} → Kinds K → Index S K → Meaning
+abbrev pub meaning_of : {S K : Type 0} {s : Stores S} (k : Kinds K) → Index S K s k → Meaning
 meaning_of k x = k.stands x.kind
 
 -- the record that stands at a place of the recording
-abbrev pub stands_at : {S K : Type 0} → Stores S → Kinds K → Index S K → ℕ → Option Record
+abbrev pub stands_at : {S K : Type 0} (s : Stores S) (k : Kinds K) → Index S K s k → ℕ → Option Record
 stands_at s k x p = meaning_of k x (cells_of s x) p
 
 -- how far the index has come, with its table
-abbrev pub progress : {S K : Type 0} → Index S K → List Row → Progress
+abbrev pub progress : {S K : Type 0} {s : Stores S} {k : Kinds K} → Index S K s k → List Row → Progress
 progress x table = at x.place x.skipped x.rows table

@@ -1,5 +1,5 @@
 // Reading on along the listing.
-ghost use Rattle.std.specs.Prelude.{◌≡◌, ℕ, ◌+◌, ◌<◌, ◌≤◌, length, Some, None};
+ghost use Rattle.std.specs.Prelude.{◌≡◌, ℕ, ◌+◌, ◌<◌, ◌≤◌, true, length, Some, None, is_some};
 ghost use Rattle.std.specs.Option.{option_map};
 ghost use Rattle.index.specs.Indexes.{cells_of, stands_at};
 ghost use Rattle.listing.specs.Listing.{row_at};
@@ -29,13 +29,15 @@ pub(crate) fn row_of(place: u32, x: Record) -> Row
 }
 
 impl<S: Store + Drop, K: RecordKind + Drop> Index<S, K> {
-    // The row of the record that stands at the place, of which the length is known.
-    fn row_at(&self, at: u32, length: u32) -> Row
-        requires { Some length ≡ option_map (λ x. x.length) (stands_at S.Store K.RecordKind self.now at) }
+    // The row of the record that stands at the place.
+    fn row_at(&self, at: u32) -> Row
+        requires { is_some (stands_at S.Store K.RecordKind self.now at) ≡ true }
         ensures { option_map (row_at at) (stands_at S.Store K.RecordKind self.now at) ≡ Some result }
     {
-        let details = self.kind.details(&self.store, at);
-        row_of(at, details.with_length(length))
+        match self.kind.record(&self.store, at) {
+            Some(x) => row_of(at, x),
+            None => unreachable(),
+        }
     }
 
     // How many cells from a place on no record begins at, as far as the store has bytes at hand.
@@ -71,7 +73,7 @@ impl<S: Store + Drop, K: RecordKind + Drop> Index<S, K> {
             }
             Some(length) => {
                 if self.rows < MOST && (self.rows as usize) < table.len() {
-                    table[self.rows as usize] = self.row_at(self.place, length);
+                    table[self.rows as usize] = self.row_at(self.place);
                     self.rows += 1;
                     self.place += length;
                     true
