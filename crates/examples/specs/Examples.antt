@@ -1,5 +1,5 @@
 -- Worked examples: recordings with their rows, the cells skipped and what is said of some boundaries; and settings bodies with what is found of them.
-use Rattle.std.specs.Prelude.{◌≡◌, ℕ, ◌-◌, ◌/◌, ◌%◌, List, [], ◌∷◌, ◌++◌, map, length, take, drop, replicate, Some, None, Ok, Err, Option, Result, slice_set}
+use Rattle.std.specs.Prelude.{◌≡◌, ℕ, ◌-◌, ◌/◌, ◌%◌, List, [], ◌∷◌, ◌++◌, length, take, drop, replicate, Some, None, Ok, Err, Option, Result, slice_set}
 use Rattle.std.specs.List.{AllByRecursion as All}
 use Rattle.refusals.specs.declared.Notice.{Notice}
 use Rattle.refusals.specs.Notices.{notice}
@@ -8,7 +8,7 @@ use Rattle.bodies.specs.declared.fault.TupleFault.{TupleFault}
 use Rattle.bodies.specs.Faults.{tuple_fault}
 use Rattle.bodies.specs.Judge.{tuple_of}
 use Rattle.recording.specs.declared.Cell.{Cell}
-use Rattle.recording.specs.declared.Cell.TheVariants.{Byte, Lost}
+use Rattle.recording.specs.declared.Cell.TheVariants.{Lost}
 use Rattle.recording.specs.Cells.{bytes_only}
 use Rattle.records.specs.Records.{Meaning}
 use Rattle.records.specs.Grammars.{meaning}

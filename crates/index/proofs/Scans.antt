@@ -1,5 +1,5 @@
 -- A run of turns from one state of an index to another.
-use Rattle.std.proofs.Common.{◌≡◌, ℕ, ◌+◌, ◌-◌, ◌<◌, ◌≤◌, Bool, true, false, cond, List, length, None, sym, refl, ap, ◌∙◌, arith}
+use Rattle.std.proofs.Common.{◌≡◌, ℕ, ◌+◌, ◌-◌, ◌<◌, ◌≤◌, Bool, true, false, cond, List, length, None, sym, ap, ◌∙◌, arith}
 use Rattle.indexfile.specs.declared.row.Row.{Row}
 use Rattle.listing.specs.declared.answer.Stop.TheVariants.{Ended, Spent, Full}
 use Rattle.listing.specs.Scanning.{turned, outcome, scanned}

@@ -1,5 +1,5 @@
 -- Places at which no record begins, passed over many at a time.
-use Rattle.std.proofs.Common.{◌≡◌, ℕ, zero, suc, ◌+◌, ◌-◌, ◌<◌, ◌≤◌, cond, false, List, length, None, sym, refl, ap, ◌∙◌, arith}
+use Rattle.std.proofs.Common.{◌≡◌, ℕ, zero, suc, ◌+◌, ◌-◌, ◌<◌, ◌≤◌, cond, List, length, None, ap, ◌∙◌, arith}
 use Rattle.recording.specs.declared.Cell.{Cell}
 use Rattle.recording.specs.Cells.{is_byte, Stand}
 use Rattle.recording.proofs.Lists.{byte_within}

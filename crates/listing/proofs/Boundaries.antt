@@ -1,8 +1,7 @@
 -- Behind a clear boundary the listing does not depend on what stands ahead of it.
-use Rattle.std.proofs.Common.{◌≡◌, ℕ, suc, ◌+◌, ◌-◌, ◌<◌, ◌≤◌, List, [], ◌∷◌, map, length, drop, Some, sym, refl, ap, ◌∙◌, inl, inr, arith, length-drop}
+use Rattle.std.proofs.Common.{◌≡◌, ℕ, suc, ◌+◌, ◌-◌, ◌≤◌, List, [], ◌∷◌, map, length, drop, refl, ap, inl, inr, arith, length-drop}
 use Rattle.std.proofs.lemmas.Bool.{le-leb, lt-leb, le-ltb, cases_lt}
 use Rattle.recording.specs.declared.Cell.{Cell}
-use Rattle.records.specs.declared.kind.Record.{Record}
 use Rattle.indexfile.specs.declared.row.Row.{Row}
 use Rattle.records.specs.Records.{Meaning, Laws}
 use Rattle.listing.specs.Listing.{row_at, listing, Clear, ahead, behind, counted}

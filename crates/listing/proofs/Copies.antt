@@ -1,9 +1,9 @@
 -- Cells, and a copy of their bytes.
-use Rattle.std.proofs.Common.{◌≡◌, ℕ, zero, suc, ◌+◌, ◌-◌, ◌<◌, ◌≤◌, List, [], ◌∷◌, ◌++◌, map, length, get_or, take, drop, set, sym, refl, ap, ◌∙◌, subst, append_assoc, add-one, arith, length-drop, length-take, get_or-drop, drop-cons}
+use Rattle.std.proofs.Common.{◌≡◌, ℕ, zero, suc, ◌+◌, ◌-◌, ◌<◌, ◌≤◌, List, [], ◌∷◌, ◌++◌, map, length, get_or, take, drop, set, sym, refl, ap, ◌∙◌, append_assoc, add-one, arith, length-drop, length-take, get_or-drop, drop-cons}
 use lib.ListN.{length-map}
 use Rattle.std.proofs.lemmas.List.{map_more, set_at, take_at}
 use Rattle.recording.specs.declared.Cell.{Cell}
-use Rattle.recording.specs.declared.Cell.TheVariants.{Byte, Lost}
+use Rattle.recording.specs.declared.Cell.TheVariants.{Lost}
 use Rattle.recording.specs.Cells.{cell_at}
 use Rattle.listing.specs.Fetching.{byte_of, byte_in, bytes_at}
 

@@ -1,5 +1,5 @@
 -- What a fetch that is not refused leaves in the buffer.
-use Rattle.std.proofs.Common.{◌≡◌, ℕ, ◌+◌, ◌-◌, ◌<◌, ◌≤◌, Bool, true, false, cond, ltb, leb, List, [], ◌∷◌, ◌++◌, map, length, get_or, take, drop, Ok, Err, Result, sym, refl, ap, ◌∙◌, inl, inr, arith, length-drop, length-take}
+use Rattle.std.proofs.Common.{◌≡◌, ℕ, ◌-◌, ◌≤◌, Bool, true, false, cond, ltb, leb, List, ◌++◌, length, get_or, take, drop, Ok, Err, Result, refl, ap, ◌∙◌, inl, inr, arith, length-drop, length-take}
 use lib.ListN.{length-map}
 use lib.Seq.{take-append-le, drop-append-le}
 use Rattle.std.proofs.lemmas.Bool.{ltb-false, cases_lt}
@@ -7,10 +7,10 @@ use Rattle.recording.specs.declared.Cell.{Cell}
 use Rattle.indexfile.specs.declared.row.Row.{Row}
 use Rattle.listing.specs.declared.answer.FetchRefusal.{FetchRefusal}
 use Rattle.listing.specs.declared.answer.FetchRefusal.TheVariants.{ShortTable, RowNotHeld, RowNotStanding, ShortBuffer}
-use Rattle.records.specs.Records.{Meaning, Laws, run}
+use Rattle.records.specs.Records.{Meaning, Laws}
 use Rattle.listing.specs.Progress.{Progress}
 use Rattle.indexfile.specs.Written.{no_row}
-use Rattle.listing.specs.Fetching.{byte_of, bytes_at, standing, fetching}
+use Rattle.listing.specs.Fetching.{bytes_at, standing, fetching}
 use Rattle.listing.specs.Settling.{body}
 use Rattle.listing.proofs.Inside.{row_inside}
 

@@ -1,5 +1,5 @@
 -- The rows that an index along the listing holds, and what the calls that name a row answer.
-use Rattle.std.proofs.Common.{◌≡◌, ℕ, zero, suc, ◌+◌, ◌*◌, ◌<◌, ◌≤◌, min, Bool, true, false, cond, ◌&&◌, eqb, ltb, leb, List, ◌++◌, length, get_or, take, drop, Some, Ok, Err, sym, refl, ap, ◌∙◌, arith, length-take, get_or-take}
+use Rattle.std.proofs.Common.{◌≡◌, ℕ, zero, suc, ◌+◌, ◌*◌, ◌<◌, ◌≤◌, min, Bool, true, false, cond, ◌&&◌, ltb, leb, List, ◌++◌, length, get_or, take, drop, Some, Ok, Err, sym, refl, ap, ◌∙◌, arith, length-take, get_or-take}
 use Rattle.std.specs.List.{AllByRecursion as All}
 use Rattle.std.specs.Option.{ok_or}
 use Rattle.std.specs.Result.{result_map_both}
@@ -19,7 +19,7 @@ use Rattle.listing.specs.declared.answer.SaveRefusal.TheVariants as save
 use Rattle.listing.specs.Listing.{row_at, listing, ahead, EndsBy, Standing, Along}
 use Rattle.listing.specs.Progress.{Progress, held}
 use Rattle.listing.specs.Fetching.{standing, row_of, filled, fetching}
-use Rattle.listing.specs.Settling.{settled, settling, in_row, judged, inspecting}
+use Rattle.listing.specs.Settling.{settled, settling, in_row, judged}
 use Rattle.listing.specs.Saving.{saved, saving}
 use Rattle.listing.specs.Promise.{listed, earlier, Holds, Lacks}
 use Rattle.listing.proofs.Lists.{Lists, at_end, at_cell, at_record, lists_from}

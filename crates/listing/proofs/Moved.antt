@@ -1,13 +1,13 @@
 -- Rows behind two clear boundaries that the same cells follow.
-use Rattle.std.proofs.Common.{◌≡◌, ℕ, zero, suc, ◌+◌, ◌-◌, ◌<◌, ◌≤◌, Bool, true, false, cond, ◌&&◌, eqb, ltb, leb, List, [], ◌∷◌, ◌++◌, map, length, get_or, take, drop, Some, None, filter, Option, sym, refl, ap, ◌∙◌, inl, inr, append-nil, arith, drop-drop}
+use Rattle.std.proofs.Common.{◌≡◌, ℕ, zero, suc, ◌+◌, ◌-◌, ◌<◌, ◌≤◌, Bool, true, false, ◌&&◌, eqb, List, [], ◌∷◌, ◌++◌, map, length, get_or, take, drop, Some, None, filter, Option, sym, refl, ap, ◌∙◌, inl, inr, append-nil, arith, drop-drop}
 use Rattle.std.specs.List.{AllZip, AllByRecursion as All}
-use Rattle.std.proofs.lemmas.Bool.{lt-ltb, le-ltb, le-leb, lt-leb, eq-eqb, ltb-true, cases_lt}
-use Rattle.std.proofs.ByRecursion.{All-get_or, All-weaker}
+use Rattle.std.proofs.lemmas.Bool.{lt-ltb, le-ltb, le-leb, lt-leb, eq-eqb, cases_lt}
+use Rattle.std.proofs.ByRecursion.{All-get_or}
 use Rattle.recording.specs.declared.Cell.{Cell}
 use Rattle.records.specs.declared.kind.Record.{Record}
 use Rattle.indexfile.specs.declared.row.Row.{Row}
-use Rattle.records.specs.Records.{Meaning, Laws, run}
-use Rattle.listing.specs.Listing.{row_at, listing, Clear, ahead, behind, Ascending, Standing}
+use Rattle.records.specs.Records.{Meaning, Laws}
+use Rattle.listing.specs.Listing.{row_at, listing, Clear, ahead, behind, Ascending}
 use Rattle.indexfile.specs.Written.{no_row}
 use Rattle.listing.specs.Fetching.{byte_of, bytes_at, standing}
 use Rattle.listing.specs.Settling.{body, last}

@@ -1,5 +1,5 @@
 -- Every lawful record kind keeps the promise.
-use Rattle.std.proofs.Common.{◌≡◌, ℕ, List, sym, subst}
+use Rattle.std.proofs.Common.{ℕ, List, sym, subst}
 use mathlib.Core.Path.{fun_ext}
 use Rattle.recording.specs.declared.Cell.{Cell}
 use Rattle.records.specs.Records.{Meaning, Laws}

@@ -1,5 +1,5 @@
 -- The search for the settings that govern a row.
-use Rattle.std.proofs.Common.{◌≡◌, ℕ, ◌+◌, ◌-◌, ◌<◌, ◌≤◌, Bool, true, false, cond, ◌&&◌, ◌||◌, eqb, leb, List, [], ◌∷◌, ◌++◌, map, length, get_or, take, drop, is_some, Some, None, Ok, Err, filter, Option, Result, sym, refl, ap, ◌∙◌, inl, inr, append-nil, arith, length-drop, length-take, drop-drop}
+use Rattle.std.proofs.Common.{◌≡◌, ℕ, ◌+◌, ◌-◌, ◌<◌, ◌≤◌, Bool, true, false, cond, ◌||◌, eqb, leb, List, [], ◌∷◌, ◌++◌, map, length, get_or, take, drop, is_some, Some, None, Ok, Err, filter, Option, Result, sym, refl, ap, ◌∙◌, inl, inr, append-nil, arith, length-drop, length-take, drop-drop}
 use lib.ListN.{length-map}
 use Rattle.std.specs.Option.{option_map}
 use Rattle.std.specs.Result.{result_ok}
@@ -7,7 +7,7 @@ use Rattle.layouts.specs.declared.fault.LayoutFault.{LayoutFault}
 use Rattle.layouts.specs.declared.fault.LayoutFault.TheVariants as fault
 use Rattle.layouts.specs.declared.settings.Settings.{Settings}
 use Rattle.layouts.specs.Checks.{check, and_then}
-use Rattle.layouts.specs.Settings.{between, since, length_of, version, head_controller_version, hid_type, head_agrees, altimeter_for, counter_of, settings_of}
+use Rattle.layouts.specs.Settings.{between, since, length_of, version, head_controller_version, hid_type, head_agrees, altimeter_for, counter_of}
 use Rattle.layouts.specs.Members.{high_rate}
 use Rattle.std.proofs.lemmas.Bool.{eq-eqb, ne_eqb, or_from, cases_lt, and_parts, le-leb, lt-leb}
 use Rattle.std.proofs.lemmas.List.Elements.{filter-append}

@@ -1,7 +1,6 @@
 -- A scan goes along the listing, and so does every index that is visited.
-use Rattle.std.proofs.Common.{◌≡◌, ℕ, zero, suc, ◌+◌, ◌-◌, ◌<◌, ◌≤◌, min, true, false, cond, ltb, leb, ◌⊎◌, List, [], ◌∷◌, ◌++◌, length, take, drop, set, Some, None, Ok, Err, Option, sym, refl, ap, ◌∙◌, subst, inl, inr, arith, length-set, take-append-drop, length-take, drop-drop, drop-set-lt}
-use Rattle.std.specs.List.{AllByRecursion as All}
-use Rattle.std.proofs.lemmas.Bool.{lt-ltb, le-ltb, le-leb, lt-leb, cases_lt}
+use Rattle.std.proofs.Common.{◌≡◌, ℕ, zero, suc, ◌+◌, ◌-◌, ◌<◌, ◌≤◌, min, List, [], ◌∷◌, ◌++◌, length, take, drop, set, Some, None, Err, Option, sym, refl, ap, ◌∙◌, subst, inl, inr, arith, length-set, take-append-drop, length-take, drop-drop, drop-set-lt}
+use Rattle.std.proofs.lemmas.Bool.{lt-ltb, le-ltb, lt-leb, cases_lt}
 use Rattle.std.proofs.lemmas.List.{take_more_set, drop_at}
 use Rattle.recording.specs.declared.Cell.{Cell}
 use Rattle.records.specs.declared.kind.Record.{Record}
@@ -9,16 +8,14 @@ use Rattle.records.specs.Records.{Meaning, Laws}
 use Rattle.indexfile.specs.declared.row.Row.{Row}
 use Rattle.listing.specs.declared.answer.Stop.{Stop}
 use Rattle.listing.specs.declared.answer.Stop.TheVariants.{Ended, Spent, Full}
-use Rattle.listing.specs.declared.answer.Scanned.{Scanned}
 use Rattle.listing.specs.declared.answer.ScanRefusal.TheVariants.{WrongBudget}
 use Rattle.listing.specs.declared.answer.ClearRefusal.TheVariants.{PastEnd}
 use Rattle.listing.specs.declared.answer.Call.{Call}
 use Rattle.listing.specs.declared.answer.Call.TheVariants as call
 use Rattle.listing.specs.declared.answer.Visit.{Visit}
-use Rattle.indexfile.specs.Files.{lengths}
-use Rattle.listing.specs.Listing.{row_at, listing, onward, moved, ahead, EndsBy, Along}
+use Rattle.listing.specs.Listing.{row_at, listing, onward, moved}
 use Rattle.listing.specs.Progress.{Progress, at}
-use Rattle.listing.specs.Scanning.{turned, Outcome, outcome, scanned, scanning, answer_to}
+use Rattle.listing.specs.Scanning.{Outcome, outcome, scanned, scanning, answer_to}
 use Rattle.listing.specs.Visits.{after, visited, unused}
 use Rattle.listing.specs.Promise.{Why, extra, Goes, Used}
 use Rattle.listing.proofs.Scans.{ended, spent}

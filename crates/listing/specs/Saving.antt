@@ -1,5 +1,5 @@
 -- Saving the rows held, with the place and the cells skipped.
-use Rattle.std.specs.Prelude.{ℕ, cond, List, length, Ok, Err, Result, nat_lt}
+use Rattle.std.specs.Prelude.{ℕ, cond, List, length, Err, Result, nat_lt}
 use Rattle.std.specs.Result.{result_map_both}
 use Rattle.indexfile.specs.declared.refusal.WriteRefusal.{WriteRefusal}
 use Rattle.indexfile.specs.Files.{writing}

@@ -3,7 +3,7 @@ use Rattle.std.proofs.Common.{◌≡◌, ℕ, zero, suc, ◌+◌, ◌<◌, ◌�
 use lib.Bits.{bit_xor}
 use Rattle.std.specs.Option.{option_map}
 use Rattle.std.proofs.lemmas.List.{drop_all}
-use Rattle.std.proofs.lemmas.Bool.{cases_Bool, cond-false, ne_eqb, and_left, and_right, and_from, and_parts, le-leb, lt-leb, false≢true}
+use Rattle.std.proofs.lemmas.Bool.{cases_Bool, cond-false, ne_eqb, and_left, and_right, and_parts, le-leb, lt-leb, false≢true}
 use Rattle.records.specs.declared.kind.Record.{Record}
 use Rattle.records.specs.Sentences.{name_char, text_char, char_at, all_text, is_text, before_star, xored, closing, begins, dollar, is_head, name_sum, is_tail, tail_of, sentence}
 use Rattle.records.proofs.TupleTests.{read_in}

@@ -1,12 +1,12 @@
 -- Where a tuple stands, told by what was read.
-use Rattle.std.proofs.Common.{◌≡◌, ℕ, zero, suc, ◌+◌, ◌-◌, ◌*◌, ◌<◌, ◌≤◌, Bool, true, false, cond, ◌&&◌, eqb, leb, List, [], ◌∷◌, length, get_or, take, drop, is_some, Some, None, Option, sym, refl, ap, ◌∙◌, subst, ⊎_elim, le_of_suc-le-suc, not-suc-le-zero, add-zero, arith, length-drop}
-use Rattle.std.proofs.lemmas.Bool.{cases_Bool, cond-false, cond-true, eqb-true, eq-eqb, ne_eqb, and_left, and_right, and_from, and_parts, leb-true, leb-false, false≢true}
+use Rattle.std.proofs.Common.{◌≡◌, ℕ, zero, suc, ◌+◌, ◌<◌, ◌≤◌, true, false, ◌&&◌, eqb, List, [], ◌∷◌, length, get_or, is_some, Some, None, Option, sym, refl, ap, ◌∙◌, ⊎_elim, le_of_suc-le-suc, not-suc-le-zero, arith}
+use Rattle.std.proofs.lemmas.Bool.{cases_Bool, cond-false, eqb-true, eq-eqb, and_right, and_from, and_parts, leb-true, leb-false, false≢true}
 use Rattle.recording.specs.declared.Cell.{Cell}
 use Rattle.records.specs.declared.kind.Record.{Record}
 use Rattle.records.specs.Grammars.{bytes_from, first, first_two}
-use Rattle.records.specs.Tuples.{pair_at, size_of, sync_mark, is_tuple, tuple, tuple_of}
-use Rattle.records.specs.TupleLaws.{Stood, when_stands, tuple_stands, found}
-use Rattle.records.specs.ReadingLaws.{later, byte_in_lem, byte_next, byte_end, pair_in, pair_next, none_first, some_first, whole_run}
+use Rattle.records.specs.Tuples.{pair_at, size_of, sync_mark, is_tuple, tuple}
+use Rattle.records.specs.TupleLaws.{Stood, when_stands, tuple_stands}
+use Rattle.records.specs.ReadingLaws.{byte_next, pair_in, pair_next, some_first, whole_run}
 use Rattle.recording.specs.Cells.{whole_from}
 use Rattle.std.specs.Option.{option_map}
 

@@ -1,6 +1,6 @@
 -- What is read at a place of a recording, told by the run of bytes at an earlier place.
-use Rattle.std.specs.Prelude.{◌≡◌, ℕ, zero, suc, ◌+◌, ◌-◌, ◌*◌, ◌<◌, ◌≤◌, true, false, cond, leb, List, [], ◌∷◌, length, take, drop, is_some, Some, None, Ok, Err, Option, Result, nat_le, slice_index, refl}
-use Rattle.std.proofs.Common.{sym, ap, subst, ◌∙◌, suc-le-suc, not-suc-le-zero, le_of_suc-le-suc, add-zero, mod-eq_of_lt, arith, length-drop, drop_of_length-le, get_or-drop, drop-drop, ⊎_elim}
+use Rattle.std.specs.Prelude.{◌≡◌, ℕ, zero, suc, ◌+◌, ◌*◌, ◌<◌, ◌≤◌, false, cond, leb, List, [], ◌∷◌, length, take, drop, is_some, Some, None, Ok, Err, Option, Result, nat_le, slice_index, refl}
+use Rattle.std.proofs.Common.{sym, ap, ◌∙◌, suc-le-suc, not-suc-le-zero, le_of_suc-le-suc, add-zero, mod-eq_of_lt, arith, length-drop, drop_of_length-le, get_or-drop, drop-drop, ⊎_elim}
 use Rattle.std.specs.List.{AllByRecursion as All}
 use Rattle.recording.specs.declared.Cell.{Cell}
 use Rattle.recording.specs.declared.Cell.TheVariants.{Byte, Lost}

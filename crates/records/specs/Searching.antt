@@ -1,5 +1,5 @@
 -- A search for two bytes that stand side by side.
-use Rattle.std.specs.Prelude.{◌≡◌, ℕ, ◌+◌, ◌<◌, ◌≤◌, List, length, replicate, ◌≢◌, bit_and, bit_or, bit_xor, slice_index}
+use Rattle.std.specs.Prelude.{ℕ, ◌+◌, ◌<◌, List, length, replicate, ◌≢◌, bit_and, bit_or, bit_xor, slice_index}
 use Rattle.std.specs.Simd.Lanes.{zip2}
 use Rattle.records.specs.declared.search.Pair.{Pair}
 

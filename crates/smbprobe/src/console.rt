@@ -10,11 +10,12 @@ pub struct Console<'r> {
 }
 
 impl<'r> Console<'r> {
-    pub fn new(rt: &'r HostRuntime) -> Console<'r> {
-        Console {
+    // Without memory for what is read ahead there is no console.
+    pub fn new(rt: &'r HostRuntime) -> io::Result<Console<'r>> {
+        Ok(Console {
             rt,
-            input: BufReader::new(rt.stdin()),
-        }
+            input: BufReader::new(rt.alloc(), rt.stdin())?,
+        })
     }
 
     pub fn heap(&self) -> Global {

@@ -38,7 +38,7 @@ use setup::Setup;
 use std::io;
 
 fn main(rt: HostRuntime) -> io::Result<()> {
-    let mut console = Console::new(&rt);
+    let mut console = Console::new(&rt)?;
     let mut setup = Setup::new(rt.alloc());
     let mut back = None;
     for _ in 0..u64::MAX {

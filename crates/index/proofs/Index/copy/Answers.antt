@@ -1,4 +1,4 @@
-use Rattle.std.proofs.Common.{◌++◌, drop, set, sym, ap, ◌∙◌, arith}
+use Rattle.std.proofs.Common.{◌++◌, drop, set, ap, ◌∙◌, arith}
 use Rattle.listing.specs.Fetching.{bytes_at}
 use Rattle.listing.proofs.Copies.{copied_more}
 use Rattle.index.proofs.Index.copy.Goals as goal

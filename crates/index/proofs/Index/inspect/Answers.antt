@@ -1,4 +1,3 @@
-use Rattle.std.proofs.Common.{sym, ◌∙◌}
 use Rattle.index.specs.Indexes.{progress}
 use Rattle.index.proofs.Inspects.{finds, is_sound}
 use Rattle.index.proofs.Index.inspect.Goals as goal

@@ -1,4 +1,4 @@
-use Rattle.std.proofs.Common.{◌≡◌, Bool, true, false, cond, get_or, take, Some, ap, ◌∙◌, arith}
+use Rattle.std.proofs.Common.{◌≡◌, Bool, cond, get_or, take, Some, ap, ◌∙◌, arith}
 use Rattle.layouts.specs.declared.settings.Counter.TheVariants.{Without}
 use Rattle.indexfile.specs.Written.{no_row}
 use Rattle.listing.proofs.Settles.{By, passed_back, governs_back}

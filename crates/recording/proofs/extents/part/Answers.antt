@@ -1,4 +1,4 @@
-use Rattle.std.proofs.Common.{take, drop, sym, ap, ◌∙◌, arith, length-drop}
+use Rattle.std.proofs.Common.{drop, arith, length-drop}
 use Rattle.recording.proofs.Lists.{take_least}
 use Rattle.recording.proofs.extents.part.Goals as goal
 

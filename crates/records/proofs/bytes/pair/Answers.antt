@@ -1,4 +1,4 @@
-use Rattle.std.proofs.Common.{◌+◌, ◌*◌, Some, sym, ap, ◌∙◌, arith}
+use Rattle.std.proofs.Common.{◌+◌, ◌*◌, Some, sym, ◌∙◌, arith}
 use Rattle.records.specs.ReadingLaws.{within, no_pair, the_pair}
 use Rattle.records.proofs.bytes.pair.Goals as goal
 

@@ -1,4 +1,4 @@
-use Rattle.std.proofs.Common.{◌+◌, sym, refl, ◌∙◌, arith}
+use Rattle.std.proofs.Common.{◌+◌, sym, refl, arith}
 use Rattle.std.proofs.lemmas.Bool.{false≢true}
 use Rattle.records.specs.ReadingLaws.{within, some_first, byte_end}
 use Rattle.records.specs.Grammars.{bytes_from}

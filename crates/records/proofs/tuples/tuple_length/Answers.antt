@@ -1,4 +1,4 @@
-use Rattle.std.proofs.Common.{sym, refl, ap, ◌∙◌, arith}
+use Rattle.std.proofs.Common.{sym, refl, ◌∙◌, arith}
 use Rattle.records.proofs.TupleTests.{unread, footless, unlike, broken, stands, none_long}
 use Rattle.records.proofs.tuples.tuple_length.Goals as goal
 

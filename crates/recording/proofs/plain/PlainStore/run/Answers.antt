@@ -1,4 +1,4 @@
-use Rattle.std.proofs.Common.{◌≡◌, ◌+◌, ◌-◌, ◌<◌, length, take, drop, Ok, sym, ap, ◌∙◌, arith, length-take, get_or-drop, get_or-take}
+use Rattle.std.proofs.Common.{◌+◌, ◌-◌, ◌<◌, length, take, drop, Ok, sym, ap, ◌∙◌, arith, length-take, get_or-drop, get_or-take}
 use Rattle.recording.specs.declared.Cell.TheVariants.{Byte}
 use Rattle.recording.specs.Cells.{length-bytes}
 use Rattle.recording.proofs.Lists.{at_bytes}

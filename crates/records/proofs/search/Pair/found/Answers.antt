@@ -1,4 +1,4 @@
-use Rattle.std.proofs.Common.{◌≡◌, ◌+◌, ◌-◌, eqb, map, length, take, drop, sym, ap, ◌∙◌, arith, take-take, w8}
+use Rattle.std.proofs.Common.{◌≡◌, ◌+◌, ◌-◌, eqb, map, length, take, drop, ap, ◌∙◌, arith, take-take, w8}
 use lib.Lanes.{chunk, mask_l}
 use Rattle.std.proofs.lemmas.Simd.{bitmask_splat}
 use Rattle.records.specs.Searching.{lanes}
