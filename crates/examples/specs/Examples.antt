@@ -1,6 +1,6 @@
 -- Worked examples: recordings with their rows, the cells skipped and what is said of some boundaries; and settings bodies with what is found of them.
 use Rattle.std.specs.Prelude.{◌≡◌, ℕ, ◌-◌, ◌/◌, ◌%◌, List, [], ◌∷◌, ◌++◌, length, take, drop, replicate, Some, None, Ok, Err, Option, Result, slice_set}
-use Rattle.std.specs.List.{AllByRecursion as All}
+use Rattle.std.specs.List.{AllByRecursion}
 use Rattle.refusals.specs.declared.Notice.{Notice}
 use Rattle.refusals.specs.Notices.{notice}
 use Rattle.layouts.specs.declared.settings.Counter.TheVariants.{Without}
@@ -47,7 +47,7 @@ finished e = at (length e.cells) e.skipped (length e.rows) (e.rows ++ drop (leng
 pub record Listed (e : Listing) : Type 0 where
   pub listed : listing e.meaning e.cells ≡ e.rows
   pub scanned : visited e.meaning e.cells (unmade (Scan 65536) ∷ []) start ≡ finished e
-  pub answers : All (λ b. clearing e.meaning e.cells b.0 start ≡ Ok b.1) e.boundaries
+  pub answers : AllByRecursion (λ b. clearing e.meaning e.cells b.0 start ≡ Ok b.1) e.boundaries
 
 -- what is found of a settings body: nothing, or a number and a place
 abbrev pub found : Result (Unit {0}) TupleFault → Option Notice

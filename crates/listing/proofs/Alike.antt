@@ -1,6 +1,6 @@
 -- Two indexes settle and inspect alike what lies behind clear boundaries that the same cells follow.
 use Rattle.std.proofs.Common.{◌≡◌, ℕ, ◌+◌, ◌<◌, ◌≤◌, true, false, cond, ◌&&◌, eqb, ltb, List, ◌++◌, length, take, drop, is_some, Some, Ok, Err, filter, Result, sym, refl, ap, ◌∙◌, inl, inr, arith}
-use Rattle.std.specs.List.{AllByRecursion as All}
+use Rattle.std.specs.List.{AllByRecursion}
 use Rattle.std.specs.Option.{ok_or}
 use Rattle.std.specs.Result.{result_map_both}
 use Rattle.std.proofs.lemmas.Bool.{lt-ltb, le-ltb, ltb-true, cases_lt}
@@ -46,7 +46,7 @@ module _ {M : ℕ} {m : Meaning} (laws : Laws M m) (cs ds : List Cell) (b c : �
       ∙ ap (filter (is_settings m es x)) (filter-append (λ r. ltb r.place p) (ahead a (listing m es)) (behind a (listing m es)))
       ∙ filter-append (is_settings m es x) (ahead p (ahead a (listing m es))) (ahead p (behind a (listing m es)))
 
-  parts_ahead : (es : List Cell) (a p : ℕ) (x : Row) → All (λ r. r.place < a) (parts es p x (ahead a (listing m es)))
+  parts_ahead : (es : List Cell) (a p : ℕ) (x : Row) → AllByRecursion (λ r. r.place < a) (parts es p x (ahead a (listing m es)))
   parts_ahead es a p x =
       all_kept_by (is_settings m es x) (λ r. r.place < a) (ahead p (ahead a (listing m es)))
       (all_kept_by (λ r. ltb r.place p) (λ r. r.place < a) (ahead a (listing m es))

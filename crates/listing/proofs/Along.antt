@@ -1,6 +1,6 @@
 -- How a scan comes along the listing.
 use Rattle.std.proofs.Common.{◌≡◌, ℕ, ◌+◌, ◌<◌, ◌≤◌, ltb, List, [], ◌∷◌, ◌++◌, length, take, drop, Some, None, sym, refl, ap, ◌∙◌, inl, inr, append-nil, arith, length-drop, take-append-drop, length-take, drop-drop, take-add}
-use Rattle.std.specs.List.{AllByRecursion as All}
+use Rattle.std.specs.List.{AllByRecursion}
 use Rattle.std.proofs.lemmas.Bool.{lt-ltb, le-ltb, cases_lt}
 use Rattle.std.proofs.lemmas.List.Elements.{filter-append}
 use Rattle.std.proofs.ByRecursion.{All-take, All-weaker, All-push}
@@ -25,12 +25,12 @@ ahead_later a b l (r ∷ rows) = elim (cases_lt r.place a) [ inl h ↦ rw (lt-lt
 split_there : {m : Meaning} {cs : List Cell} {p : ℕ} (front : List Row) {rest : List Row} → Lists m cs p rest → ahead p front ≡ front → front ≡ ahead p (front ++ rest)
 split_there {p = p} front {rest} r e = sym (filter-append (λ x. ltb x.place p) front rest ∙ rw (e, ahead_none r p (omega arith)) (append-nil front))
 
-rows_long : {M : ℕ} {m : Meaning} → Laws M m → {cs : List Cell} {p : ℕ} {rows : List Row} → Lists m cs p rows → All (λ r. 1 ≤ r.length) rows
+rows_long : {M : ℕ} {m : Meaning} → Laws M m → {cs : List Cell} {p : ℕ} {rows : List Row} → Lists m cs p rows → AllByRecursion (λ r. 1 ≤ r.length) rows
 rows_long laws (at_end h) = tt
 rows_long laws (at_cell h e r) = rows_long laws r
 rows_long laws {cs} (at_record {p} x e r) = ((laws.inside cs p x e).0, rows_long laws r)
 
-count_lengths : (rows : List Row) → All (λ r. 1 ≤ r.length) rows → length rows ≤ lengths rows
+count_lengths : (rows : List Row) → AllByRecursion (λ r. 1 ≤ r.length) rows → length rows ≤ lengths rows
 count_lengths [] h = omega arith
 count_lengths (r ∷ rows) h = omega (arith, h.0, count_lengths rows h.1)
 
@@ -45,7 +45,7 @@ module _ {M : ℕ} {m : Meaning} (laws : Laws M m) (cs : List Cell) where
     still : (q : ℕ) → p ≤ q → ahead q (take r (listing m cs)) ≡ take r (listing m cs)
     still q l = rw a.passed (ahead_later p q l (listing m cs))
 
-    closed_still : (q : ℕ) → p ≤ q → All (EndsBy q) (take r (listing m cs))
+    closed_still : (q : ℕ) → p ≤ q → AllByRecursion (EndsBy q) (take r (listing m cs))
     closed_still q l = All-weaker (EndsBy p) (EndsBy q) (λ z h. omega arith) (take r (listing m cs)) a.closed
 
     -- a skipped cell and a row each take a cell or more

@@ -1,6 +1,6 @@
 -- The rows that an index along the listing holds, and what the calls that name a row answer.
 use Rattle.std.proofs.Common.{◌≡◌, ℕ, zero, suc, ◌+◌, ◌*◌, ◌<◌, ◌≤◌, min, Bool, true, false, cond, ◌&&◌, ltb, leb, List, ◌++◌, length, get_or, take, drop, Some, Ok, Err, sym, refl, ap, ◌∙◌, arith, length-take, get_or-take}
-use Rattle.std.specs.List.{AllByRecursion as All}
+use Rattle.std.specs.List.{AllByRecursion}
 use Rattle.std.specs.Option.{ok_or}
 use Rattle.std.specs.Result.{result_map_both}
 use Rattle.std.proofs.lemmas.Bool.{lt-ltb, le-ltb, le-leb, lt-leb, eq-eqb, and_from}
@@ -36,7 +36,7 @@ standing_row : (p : ℕ) (x : Record) → standing (Some x) (row_at p x) ≡ tru
 standing_row p x = rw (eq-eqb p p refl, eq-eqb x.length x.length refl, eq-eqb x.tag x.tag refl, eq-eqb x.source_type x.source_type refl, eq-eqb x.source_id x.source_id refl, eq-eqb x.time x.time refl)
 
 -- rows of the listing that end by the place q
-rows_in_order : {M : ℕ} {m : Meaning} → Laws M m → {cs : List Cell} {p : ℕ} {rows : List Row} → Lists m cs p rows → (q n e : ℕ) → e ≤ p → All (EndsBy q) (take n rows) → in_order q e (take n rows) ≡ true
+rows_in_order : {M : ℕ} {m : Meaning} → Laws M m → {cs : List Cell} {p : ℕ} {rows : List Row} → Lists m cs p rows → (q n e : ℕ) → e ≤ p → AllByRecursion (EndsBy q) (take n rows) → in_order q e (take n rows) ≡ true
 rows_in_order laws (at_end h) q zero e l a = refl
 rows_in_order laws (at_end h) q (suc n) e l a = refl
 rows_in_order laws (at_cell h s r) q n e l a = rows_in_order laws r q n e (omega arith) a

@@ -1,6 +1,6 @@
 -- Rows behind two clear boundaries that the same cells follow.
 use Rattle.std.proofs.Common.{◌≡◌, ℕ, zero, suc, ◌+◌, ◌-◌, ◌<◌, ◌≤◌, Bool, true, false, ◌&&◌, eqb, List, [], ◌∷◌, ◌++◌, map, length, get_or, take, drop, Some, None, filter, Option, sym, refl, ap, ◌∙◌, inl, inr, append-nil, arith, drop-drop}
-use Rattle.std.specs.List.{AllZip, AllByRecursion as All}
+use Rattle.std.specs.List.{AllZip, AllByRecursion}
 use Rattle.std.proofs.lemmas.Bool.{lt-ltb, le-ltb, le-leb, lt-leb, eq-eqb, cases_lt}
 use Rattle.std.proofs.ByRecursion.{All-get_or}
 use Rattle.recording.specs.declared.Cell.{Cell}
@@ -25,7 +25,7 @@ split (at_record {p} {rows} x e r) b = elim (cases_lt p b) [
 ]
 
 -- the rows before one are those that begin before it
-none_ahead : (p : ℕ) (rows : List Row) → All (λ r. p < r.place) rows → ahead p rows ≡ []
+none_ahead : (p : ℕ) (rows : List Row) → AllByRecursion (λ r. p < r.place) rows → ahead p rows ≡ []
 none_ahead p [] h = refl
 none_ahead p (r ∷ rows) h = rw (le-ltb r.place p (omega (arith, h.0))) (none_ahead p rows h.1)
 
@@ -65,12 +65,12 @@ last_right [] w ws = refl
 last_right (u ∷ []) w ws = refl
 last_right (u ∷ v ∷ us) w ws = last_right (v ∷ us) w ws
 
-pub last_all : (P : Row → Type 0) (us : List Row) (x : Row) → All P us → last us ≡ Some x → P x
+pub last_all : (P : Row → Type 0) (us : List Row) (x : Row) → AllByRecursion P us → last us ≡ Some x → P x
 last_all P [] x h e = let z : ◌≡◌ {A = ℕ} 0 1 = cc in absurd (omega arith)
 last_all P (u ∷ []) x h e = let z : u ≡ x = cc in rw z at h.0
 last_all P (u ∷ v ∷ us) x h e = last_all P (v ∷ us) x h.1 e
 
-pub last_behind : (b : ℕ) (us ws : List Row) (x : Row) → All (λ r. r.place < b) us → last (us ++ ws) ≡ Some x → b ≤ x.place → last ws ≡ Some x
+pub last_behind : (b : ℕ) (us ws : List Row) (x : Row) → AllByRecursion (λ r. r.place < b) us → last (us ++ ws) ≡ Some x → b ≤ x.place → last ws ≡ Some x
 last_behind b us [] x h e l = absurd (omega (arith, last_all (λ r. r.place < b) us x h (rw (append-nil us) at e)))
 last_behind b us (w ∷ ws) x h e l = sym (last_right us w ws) ∙ e
 

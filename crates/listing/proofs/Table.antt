@@ -1,6 +1,6 @@
 -- The listing as a table: its rows in order, and no other table has what it has.
 use Rattle.std.proofs.Common.{◌≡◌, ℕ, suc, ◌<◌, ◌≤◌, true, false, eqb, ◌↔◌, List, [], ◌∷◌, sym, refl, ap, ◌∙◌, inl, inr, arith}
-use Rattle.std.specs.List.{AllByRecursion as All}
+use Rattle.std.specs.List.{AllByRecursion}
 use Rattle.std.proofs.lemmas.Bool.{eqb-true, eq-eqb, ne_eqb, or_cases, or_left, both_ways, cases_eq, cases_Bool}
 use Rattle.recording.specs.declared.Cell.{Cell}
 use Rattle.indexfile.specs.declared.row.Row.{Row}
@@ -9,12 +9,12 @@ use Rattle.listing.specs.Listing.{listing, listed_at, Standing, Ascending, Tabul
 use Rattle.listing.proofs.Lists.{Lists, at_end, at_cell, at_record, lists_from}
 use Rattle.listing.proofs.Chosen.{listing_chooses, chosen_one}
 
-rows_late : {m : Meaning} {cs : List Cell} {p : ℕ} {rows : List Row} → Lists m cs p rows → (b : ℕ) → b ≤ p → All (λ r. b ≤ r.place) rows
+rows_late : {m : Meaning} {cs : List Cell} {p : ℕ} {rows : List Row} → Lists m cs p rows → (b : ℕ) → b ≤ p → AllByRecursion (λ r. b ≤ r.place) rows
 rows_late (at_end h) b l = tt
 rows_late (at_cell h e r) b l = rows_late r b (omega arith)
 rows_late (at_record x e r) b l = (l, rows_late r b (omega arith))
 
-pub rows_made : {m : Meaning} {cs : List Cell} {p : ℕ} {rows : List Row} → Lists m cs p rows → All (Standing m cs) rows
+pub rows_made : {m : Meaning} {cs : List Cell} {p : ℕ} {rows : List Row} → Lists m cs p rows → AllByRecursion (Standing m cs) rows
 rows_made (at_end h) = tt
 rows_made (at_cell h e r) = rows_made r
 rows_made (at_record x e r) = ((x, e, refl), rows_made r)
@@ -28,7 +28,7 @@ pub listing_tabulates : {M : ℕ} {m : Meaning} → Laws M m → (cs : List Cell
 listing_tabulates laws cs = record { made = rows_made (lists_from laws cs 0); ordered = rows_ordered laws (lists_from laws cs 0); chosen = listing_chooses laws cs }
 
 -- a listed place is not before the first row's
-listed_after : (a : ℕ) (rows : List Row) → All (λ r. a < r.place) rows → (p : ℕ) → listed_at rows p ≡ true → a < p
+listed_after : (a : ℕ) (rows : List Row) → AllByRecursion (λ r. a < r.place) rows → (p : ℕ) → listed_at rows p ≡ true → a < p
 listed_after a [] h p e = absurd (both_ways false refl e)
 listed_after a (r ∷ rows) h p e = elim (or_cases (eqb r.place p) (listed_at rows p) e) [ inl t ↦ omega (arith, eqb-true r.place p t, h.0) | inr t ↦ listed_after a rows h.1 p t ]
 
@@ -41,7 +41,7 @@ listed_first r rows = or_left (eqb r.place r.place) (listed_at rows r.place) (eq
 listed_rest : (r : Row) (rows : List Row) (p : ℕ) → (r.place ≡ p → ⊥) → listed_at (r ∷ rows) p ≡ listed_at rows p
 listed_rest r rows p n = rw (ne_eqb r.place p n)
 
-not_again : (a : ℕ) (rows : List Row) → All (λ r. a < r.place) rows → listed_at rows a ≡ false
+not_again : (a : ℕ) (rows : List Row) → AllByRecursion (λ r. a < r.place) rows → listed_at rows a ≡ false
 not_again a rows h = elim (cases_Bool (listed_at rows a)) [ inl t ↦ absurd (omega (arith, listed_after a rows h a t)) | inr t ↦ t ]
 
 module _ (m : Meaning) (cs : List Cell) where
@@ -53,7 +53,7 @@ module _ (m : Meaning) (cs : List Cell) where
       let w : f.0 ≡ g.0 = cc in
       f.2 ∙ rw (e, w) (sym g.2)
 
-  same_table : (rs ss : List Row) → All (Standing m cs) rs → All (Standing m cs) ss → Ascending rs → Ascending ss → ((p : ℕ) → listed_at rs p ≡ listed_at ss p) → rs ≡ ss
+  same_table : (rs ss : List Row) → AllByRecursion (Standing m cs) rs → AllByRecursion (Standing m cs) ss → Ascending rs → Ascending ss → ((p : ℕ) → listed_at rs p ≡ listed_at ss p) → rs ≡ ss
   same_table [] [] f g h i same = refl
   same_table [] (s ∷ ss) f g h i same = absurd (both_ways false refl (same s.place ∙ listed_first s ss))
   same_table (r ∷ rs) [] f g h i same = absurd (both_ways false refl (sym (same r.place) ∙ listed_first r rs))

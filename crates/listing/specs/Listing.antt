@@ -1,6 +1,6 @@
 -- The listing of a recording: its records from the front on, none that begins inside another.
 use Rattle.std.specs.Prelude.{◌≡◌, ℕ, zero, suc, ◌+◌, ◌-◌, ◌<◌, ◌≤◌, Bool, true, false, ◌||◌, ltb, ◌↔◌, List, [], ◌∷◌, length, take, drop, Some, None, filter, Option, ◌==◌, nat_le, nat_lt}
-use Rattle.std.specs.List.{AllByRecursion as All}
+use Rattle.std.specs.List.{AllByRecursion}
 use Rattle.recording.specs.declared.Cell.{Cell}
 use Rattle.records.specs.declared.kind.Record.{Record}
 use Rattle.records.specs.Records.{Meaning}
@@ -80,11 +80,11 @@ Standing m cs r = (x : Record) × (m cs r.place ≡ Some x) × (r ≡ row_at r.p
 -- rows in the order of their places
 abbrev pub Ascending : List Row → Type 0
 Ascending [] = Unit {0}
-Ascending (r ∷ rows) = All (λ s. r.place < s.place) rows × Ascending rows
+Ascending (r ∷ rows) = AllByRecursion (λ s. r.place < s.place) rows × Ascending rows
 
 -- rows of standing records, in order, which leave out exactly the records that one of them covers
 pub record Tabulates (m : Meaning) (cs : List Cell) (rows : List Row) : Type 0 where
-  pub made : All (Standing m cs) rows
+  pub made : AllByRecursion (Standing m cs) rows
   pub ordered : Ascending rows
   pub chosen : Chooses m cs (listed_at rows)
 
@@ -94,6 +94,6 @@ pub record Along (m : Meaning) (cs : List Cell) (place skipped rows : ℕ) : Typ
   pub within : place ≤ length cs
   pub found : rows ≤ length (listing m cs)
   pub passed : take rows (listing m cs) ≡ ahead place (listing m cs)
-  pub closed : All (EndsBy place) (take rows (listing m cs))
+  pub closed : AllByRecursion (EndsBy place) (take rows (listing m cs))
   pub sum : skipped + lengths (take rows (listing m cs)) ≡ place
   pub rest : drop rows (listing m cs) ≡ listing_from m cs place

@@ -1,6 +1,6 @@
 -- The promise: what holds of every recording and every record kind that keeps its laws, whatever calls an index is visited by.
 use Rattle.std.specs.Prelude.{◌≡◌, ℕ, ◌+◌, ◌-◌, ◌*◌, ◌<◌, ◌≤◌, min, Bool, false, cond, ◌⊎◌, ◌↔◌, List, ◌++◌, map, length, take, drop, Some, Ok, Err, nat_le, nat_lt, slice_index_or}
-use Rattle.std.specs.List.{AllByRecursion as All}
+use Rattle.std.specs.List.{AllByRecursion}
 use Rattle.recording.specs.declared.Cell.{Cell}
 use Rattle.recording.specs.declared.Cell.TheVariants.{Lost}
 use Rattle.refusals.specs.Notices.{nowhere}
@@ -81,7 +81,7 @@ pub record Lacks (m : Meaning) (cs : List Cell) (s : Progress) (n : ℕ) : Type 
 pub record Used (m : Meaning) (cs : List Cell) (table : List Row) (s : Progress) : Type 0 where
   -- the rows held are those of the listing that begin before the place, and none of them reaches past it
   pub rows : held s ≡ ahead s.place (listing m cs)
-  pub closed : All (EndsBy s.place) (held s)
+  pub closed : AllByRecursion (EndsBy s.place) (held s)
   pub others : drop s.rows s.table ≡ drop s.rows table
   pub size : length s.table ≡ length table
   pub within : s.place ≤ length cs

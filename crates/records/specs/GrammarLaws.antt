@@ -1,7 +1,7 @@
 -- A kind that knows its records by a grammar keeps the laws of records.
 use Rattle.std.specs.Prelude.{◌≡◌, ℕ, zero, suc, ◌+◌, ◌%◌, ◌<◌, ◌≤◌, Bool, true, false, cond, List, [], ◌∷◌, length, get_or, take, drop, Some, None, Option, slice_index_or, refl}
 use Rattle.std.proofs.Common.{sym, ap, ◌∙◌, suc-le-suc, zero-le, not-suc-le-zero, le_of_suc-le-suc, mod-lt, arith, length-take, length-drop, get_or-drop, get_or-take, take-take}
-use Rattle.std.specs.List.{AllByRecursion as All}
+use Rattle.std.specs.List.{AllByRecursion}
 use Rattle.std.proofs.lemmas.List.{drop-take}
 use Rattle.recording.specs.declared.Cell.{Cell}
 use Rattle.recording.specs.declared.Cell.TheVariants.{Byte, Lost}
@@ -11,10 +11,10 @@ use Rattle.records.specs.Grammars.{bytes_of, bytes_from, Grammar, meaning}
 
 -- a grammar of records of 1 to M bytes, which looks at no byte past a record's end
 pub record Reads (M : ℕ) (g : Grammar) : Type 0 where
-  pub inside : (bs : List ℕ) (x : Record) → All (λ b. b < 256) bs → g bs ≡ Some x → (1 ≤ x.length) × (x.length ≤ M) × (x.length ≤ length bs)
+  pub inside : (bs : List ℕ) (x : Record) → AllByRecursion (λ b. b < 256) bs → g bs ≡ Some x → (1 ≤ x.length) × (x.length ≤ M) × (x.length ≤ length bs)
   pub alike : (bs ds : List ℕ) (x : Record) → g bs ≡ Some x → take x.length ds ≡ take x.length bs → g ds ≡ Some x
 
-pub all_bytes : (cs : List Cell) → All (λ b. b < 256) (bytes_of cs)
+pub all_bytes : (cs : List Cell) → AllByRecursion (λ b. b < 256) (bytes_of cs)
 all_bytes [] = tt
 all_bytes (Byte b ∷ cs) = (mod-lt b (omega arith), all_bytes cs)
 all_bytes (Lost ∷ cs) = tt
@@ -50,13 +50,13 @@ lawful M g r = record {
       r.alike (bytes_from cs p) (bytes_from ds q) x e (sym (bytes_take x.length (drop q ds)) ∙ ap bytes_of same ∙ bytes_take x.length (drop p cs));
 }
 
-pub all_taken : (n : ℕ) (bs : List ℕ) → All (λ b. b < 256) bs → All (λ b. b < 256) (take n bs)
+pub all_taken : (n : ℕ) (bs : List ℕ) → AllByRecursion (λ b. b < 256) bs → AllByRecursion (λ b. b < 256) (take n bs)
 all_taken zero bs h = tt
 all_taken (suc n) [] h = tt
 all_taken (suc n) (b ∷ bs) h = (h.0, all_taken n bs h.1)
 
 -- the first M bytes decide what stands at the front of a run
-pub front_decides : (M : ℕ) (g : Grammar) → Reads M g → (bs : List ℕ) → All (λ b. b < 256) bs → All (λ b. b < 256) (take M bs) → g (take M bs) ≡ g bs
+pub front_decides : (M : ℕ) (g : Grammar) → Reads M g → (bs : List ℕ) → AllByRecursion (λ b. b < 256) bs → AllByRecursion (λ b. b < 256) (take M bs) → g (take M bs) ≡ g bs
 front_decides M g r bs all some = go (g bs) refl (g (take M bs)) refl
   where
     short : (n : ℕ) → n ≤ M → take n (take M bs) ≡ take n bs

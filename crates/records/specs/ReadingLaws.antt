@@ -1,7 +1,7 @@
 -- What is read at a place of a recording, told by the run of bytes at an earlier place.
 use Rattle.std.specs.Prelude.{◌≡◌, ℕ, zero, suc, ◌+◌, ◌*◌, ◌<◌, ◌≤◌, false, cond, leb, List, [], ◌∷◌, length, take, drop, is_some, Some, None, Ok, Err, Option, Result, nat_le, slice_index, refl}
 use Rattle.std.proofs.Common.{sym, ap, ◌∙◌, suc-le-suc, not-suc-le-zero, le_of_suc-le-suc, add-zero, mod-eq_of_lt, arith, length-drop, drop_of_length-le, get_or-drop, drop-drop, ⊎_elim}
-use Rattle.std.specs.List.{AllByRecursion as All}
+use Rattle.std.specs.List.{AllByRecursion}
 use Rattle.recording.specs.declared.Cell.{Cell}
 use Rattle.recording.specs.declared.Cell.TheVariants.{Byte, Lost}
 use Rattle.recording.specs.declared.PastEnd.{PastEnd}
@@ -157,7 +157,7 @@ stand_front (suc n) cs p (b ∷ bs) h stand bytes =
     let here : first (bytes_from cs p) ≡ Some b = ap (λ q. first (bytes_from cs q)) (sym (add-zero p)) ∙ stand_byte cs p (b ∷ bs) stand bytes 0 (omega arith) in
     ap (λ l. b ∷ l) (stand_front n cs (p + 1) bs (le_of_suc-le-suc h) (stand_rest cs p b bs stand) (λ k. bytes (suc k))) ∙ sym (ap (take (suc n)) (run_first cs p b here))
 
-pub all_below : (bs : List ℕ) → ((k : ℕ) → slice_index bs k < 256) → All (λ b. b < 256) bs
+pub all_below : (bs : List ℕ) → ((k : ℕ) → slice_index bs k < 256) → AllByRecursion (λ b. b < 256) bs
 all_below [] h = tt
 all_below (b ∷ bs) h = (h 0, all_below bs (λ k. h (suc k)))
 

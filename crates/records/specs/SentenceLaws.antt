@@ -1,7 +1,7 @@
 -- Sentences keep the laws of records.
 use Rattle.std.specs.Prelude.{◌≡◌, ℕ, zero, suc, ◌+◌, ◌*◌, ◌<◌, ◌≤◌, Bool, true, false, cond, ◌&&◌, List, [], ◌∷◌, length, take, drop, Some, None, ◌==◌, nat_le, slice_index, slice_index_or, refl}
 use Rattle.std.proofs.Common.{sym, ap, ◌∙◌, zero-le, suc-le-suc, not-suc-le-zero, le_of_suc-le-suc, arith, length-drop, drop-drop}
-use Rattle.std.specs.List.{AllByRecursion as All}
+use Rattle.std.specs.List.{AllByRecursion}
 use Rattle.std.proofs.lemmas.Bool.{and_parts, leb-true, false≢true}
 use Rattle.records.specs.declared.kind.Record.{Record}
 use Rattle.std.specs.Option.{unwrap_or}
@@ -35,7 +35,7 @@ star_alike (suc m) (e ∷ es) (f ∷ fs) same h =
     let head : e ≡ f = ap (λ l. slice_index l 0) same in
     ap (λ b. cond (b == 42) [] (e ∷ before_star es)) head ∙ star_step (f == 42) e f (before_star es) (before_star fs) m head (star_alike m es fs (ap (drop 1) same)) h
 
-sentence_inside : (bs : List ℕ) (x : Record) → All (λ b. b < 256) bs → sentence bs ≡ Some x → (1 ≤ x.length) × (x.length ≤ 82) × (x.length ≤ length bs)
+sentence_inside : (bs : List ℕ) (x : Record) → AllByRecursion (λ b. b < 256) bs → sentence bs ≡ Some x → (1 ≤ x.length) × (x.length ≤ 82) × (x.length ≤ length bs)
 sentence_inside bs x bytes e =
     let text = before_star (drop 6 bs) in
     let f = some_cond (is_head bs && is_tail (name_sum bs) (drop 6 bs)) _ x e in

@@ -1,7 +1,7 @@
 -- Tuples keep the laws of records.
 use Rattle.std.specs.Prelude.{◌≡◌, ℕ, zero, suc, ◌+◌, ◌*◌, ◌<◌, ◌≤◌, true, List, [], ◌∷◌, length, get_or, take, Some, None, slice_index, slice_index_or, refl}
 use Rattle.std.proofs.Common.{sym, ap, ◌∙◌, arith}
-use Rattle.std.specs.List.{AllByRecursion as All}
+use Rattle.std.specs.List.{AllByRecursion}
 use Rattle.std.proofs.lemmas.Bool.{and_parts, and_from, eqb-true, eq-eqb, leb-true, le-leb, cond-true}
 use Rattle.records.specs.declared.kind.Record.{Record}
 use Rattle.std.specs.Option.{unwrap_or}
@@ -13,13 +13,13 @@ use Rattle.records.specs.ReadingLaws.{pair_in}
 use Rattle.records.specs.Tuples.{pair_at, size_of, is_tuple, tuple_of, tuple, pair_from, tuple_details}
 
 -- two bytes hold a number below 65,536
-byte_fits : (bs : List ℕ) → All (λ b. b < 256) bs → (i : ℕ) → slice_index bs i < 256
+byte_fits : (bs : List ℕ) → AllByRecursion (λ b. b < 256) bs → (i : ℕ) → slice_index bs i < 256
 byte_fits [] h zero = omega arith
 byte_fits [] h (suc i) = omega arith
 byte_fits (b ∷ bs) h zero = h.0
 byte_fits (b ∷ bs) h (suc i) = byte_fits bs h.1 i
 
-pub pair_fits : (bs : List ℕ) → All (λ b. b < 256) bs → (i : ℕ) → pair_at bs i ≤ 65535
+pub pair_fits : (bs : List ℕ) → AllByRecursion (λ b. b < 256) bs → (i : ℕ) → pair_at bs i ≤ 65535
 pair_fits bs h i = omega (arith, byte_fits bs h i, byte_fits bs h (i + 1))
 
 -- what it says of the bytes that a tuple stands at their front

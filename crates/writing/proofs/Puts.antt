@@ -1,6 +1,6 @@
 -- What a put adds to an output and to its listing.
 use Rattle.std.proofs.Common.{◌≡◌, ℕ, ◌+◌, ◌/◌, ◌%◌, ◌<◌, ◌≤◌, false, List, [], ◌∷◌, ◌++◌, length, drop, Ok, Result, sym, refl, ap, ◌∙◌, arith}
-use Rattle.std.specs.List.{AllByRecursion as All}
+use Rattle.std.specs.List.{AllByRecursion}
 use Rattle.std.proofs.lemmas.List.{append_assoc, length-append, length-drop, drop-drop, drop_at, take_all, map-append, flat_map_more}
 use Rattle.std.proofs.lemmas.Bool.{cond-false, le-ltb}
 use Rattle.recording.specs.declared.Cell.{Cell}
@@ -24,7 +24,7 @@ long_written : (h : Header) (body : List ℕ) → length (written h body) ≡ le
 long_written h body = omega (arith, length-append body (length body % 256 ∷ length body / 256 % 256 ∷ []))
 
 -- the rows from a place on at which tuples stand one behind the other, to the end
-lists_all : (cs : List Cell) (at : ℕ) (ps : List Parts) → All Fits ps → drop at cs ≡ bytes_only (outputs ps) → Lists (meaning tuple) cs at (rows_from at ps)
+lists_all : (cs : List Cell) (at : ℕ) (ps : List Parts) → AllByRecursion Fits ps → drop at cs ≡ bytes_only (outputs ps) → Lists (meaning tuple) cs at (rows_from at ps)
 lists_all cs at [] f e = at_end (omega (arith, length-drop at cs, ap length e))
 lists_all cs at (p ∷ ps) f e =
     let h = p.header in
@@ -40,13 +40,13 @@ rows_whole : (at : ℕ) (ps : List Parts) → lengths (rows_from at ps) ≡ leng
 rows_whole at [] = refl
 rows_whole at (p ∷ ps) = omega (arith, rows_whole (at + (length p.body + 16)) ps, length-append (written p.header p.body) (outputs ps), long_written p.header p.body)
 
-pub holds : (ps : List Parts) (bs : List ℕ) → All Fits ps → bs ≡ outputs ps → length bs ≤ 2147483647 → Holds ps bs
+pub holds : (ps : List Parts) (bs : List ℕ) → AllByRecursion Fits ps → bs ≡ outputs ps → length bs ≤ 2147483647 → Holds ps bs
 holds ps bs f e few =
     let same : plain bs ≡ bytes_only (outputs ps) = ap bytes_only (take_all 2147483647 bs few ∙ e) in
     let rows : listing (meaning tuple) (plain bs) ≡ rows_from 0 ps = sym (from_lists tuple_laws (plain bs) (lists_all (plain bs) 0 ps f same)) in
     record { fit = f; bytes = e; listed = rows; whole = ap lengths rows ∙ rows_whole 0 ps ∙ ap length (sym e) }
 
-all_more : (ps : List Parts) (p : Parts) → All Fits ps → Fits p → All Fits (ps ++ p ∷ [])
+all_more : (ps : List Parts) (p : Parts) → AllByRecursion Fits ps → Fits p → AllByRecursion Fits (ps ++ p ∷ [])
 all_more [] p f g = (g, tt)
 all_more (q ∷ ps) p f g = (f.0, all_more ps p f.1 g)
 

@@ -1,6 +1,6 @@
 -- Tuples one behind the other, and their listing.
 use Rattle.std.specs.Prelude.{◌≡◌, ℕ, ◌+◌, List, [], ◌∷◌, ◌++◌, length, Ok}
-use Rattle.std.specs.List.{flat_map, AllByRecursion as All}
+use Rattle.std.specs.List.{flat_map, AllByRecursion}
 use Rattle.recording.specs.Cells.{plain}
 use Rattle.records.specs.Grammars.{meaning}
 use Rattle.records.specs.Tuples.{tuple}
@@ -22,7 +22,7 @@ rows_from at (p ∷ ps) = row_at at (record_of p.header (length p.body)) ∷ row
 
 -- the bytes are these tuples, and as a plain recording they list the row of each, in order, and leave no byte out
 pub record Holds (ps : List Parts) (bs : List ℕ) : Type 0 where
-  pub fit : All Fits ps
+  pub fit : AllByRecursion Fits ps
   pub bytes : bs ≡ outputs ps
   pub listed : listing (meaning tuple) (plain bs) ≡ rows_from 0 ps
   pub whole : lengths (listing (meaning tuple) (plain bs)) ≡ length bs
