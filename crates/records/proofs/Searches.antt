@@ -10,10 +10,10 @@ use Rattle.std.proofs.lemmas.Bool.{cases_lt, eq-eqb, eqb-true, false≢true}
 use Rattle.records.specs.declared.search.Pair.{Pair}
 use Rattle.records.specs.Grammars.{meaning, bytes_from, first}
 use Rattle.records.specs.Records.{Vacant}
-use Rattle.records.specs.ReadingLaws.{some_first, stand_byte, byte_in_lem}
+use Rattle.records.proofs.Reading.{some_first, stand_byte, byte_in_lem}
 use Rattle.records.specs.Sentences.{sentence}
 use Rattle.records.specs.Tuples.{tuple}
-use Rattle.records.proofs.SentenceTests.{headless}
+use Rattle.records.proofs.SentenceTests as sentences
 use Rattle.records.proofs.TupleTests.{none_when}
 use Rattle.records.specs.Searching.{differs, lanes, Unlike}
 
@@ -130,8 +130,8 @@ module _ (run : List ℕ) (n : ℕ) (bytes : (k : ℕ) → get_or run k 0 < 256)
       here.1 (λ i. differs sync_pair (zeroth i) (same i))))
 
   pub no_sentence : Unlike dollar_pair run n → Vacant (meaning sentence) run n
-  no_sentence unlike cs p stand k h = headless (bytes_from cs (p + k)) (λ head.
+  no_sentence unlike cs p stand k h = sym (sentences.none_when cs (p + k) (λ head.
       let here = unlike k h in
       let mark : get_or run k 0 ≡ 36 = sym (some_first _ _ (stand_byte cs p run stand bytes k (omega (arith, here.0)))).1 ∙ eqb-true _ 36 head.mark in
       let any = and_zero_r (bit_xor (get_or run (k + 1) 0) 0) in
-      here.1 (λ i. bit_or (bit_xor (mark i) 36) (any i)))
+      here.1 (λ i. bit_or (bit_xor (mark i) 36) (any i))))

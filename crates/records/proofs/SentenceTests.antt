@@ -1,12 +1,30 @@
 -- Where a sentence stands, told by what was read.
-use Rattle.std.proofs.Common.{◌≡◌, ℕ, zero, suc, ◌+◌, ◌<◌, ◌≤◌, Bool, true, false, cond, ◌&&◌, eqb, leb, List, [], ◌∷◌, length, get_or, drop, Some, None, Option, sym, refl, ap, ◌∙◌, ⊎_elim, add-one, arith, drop-cons}
+use Rattle.std.proofs.Common.{◌≡◌, ℕ, zero, suc, ◌+◌, ◌*◌, ◌<◌, ◌≤◌, Bool, true, false, cond, ◌&&◌, eqb, leb, List, [], ◌∷◌, length, get_or, drop, Some, None, Option, sym, refl, ap, ◌∙◌, ⊎_elim, add-zero, add_assoc, add-one, arith, drop-cons}
 use lib.Bits.{bit_xor}
-use Rattle.std.specs.Option.{option_map}
-use Rattle.std.proofs.lemmas.List.{drop_all}
-use Rattle.std.proofs.lemmas.Bool.{cases_Bool, cond-false, ne_eqb, and_left, and_right, and_parts, le-leb, lt-leb, false≢true}
-use Rattle.records.specs.declared.kind.Record.{Record}
-use Rattle.records.specs.Sentences.{name_char, text_char, char_at, all_text, is_text, before_star, xored, closing, begins, dollar, is_head, name_sum, is_tail, tail_of, sentence}
+use Rattle.std.proofs.lemmas.Bool.{cases_Bool, cond-false, cond-true, eqb-true, eq-eqb, ne_eqb, and_left, and_right, and_from, and_parts, le-leb, lt-leb, false≢true}
+use Rattle.recording.specs.declared.Cell.{Cell}
+use Rattle.records.specs.Grammars.{bytes_from, first}
+use Rattle.records.specs.GrammarLaws.{some_cond}
+use Rattle.records.specs.Sentences.{name_char, text_char, char_at, all_text, is_text, before_star, xored, closing, begins, named, dollar, is_head, is_tail, tail_of, sentence_of, sentence}
+use Rattle.records.proofs.Reading.{byte_in_lem, run_empty, run_first}
 use Rattle.records.proofs.TupleTests.{read_in}
+
+-- a text, and the bytes at a place
+module _ (cs : List Cell) (q : ℕ) (text : List ℕ) (i : ℕ) (more : i < length text) where
+  on : drop i text ≡ get_or text i 0 ∷ drop (i + 1) text
+  on = drop-cons text i 0 more ∙ ap (λ k. get_or text i 0 ∷ drop k text) (sym (add-one i))
+
+  pub spelled_none : first (bytes_from cs q) ≡ None → begins (drop i text) (bytes_from cs q) ≡ false
+  spelled_none e = λ j. begins (on j) (run_empty (bytes_from cs q) e j)
+
+  spelled_some : (b : ℕ) → first (bytes_from cs q) ≡ Some b → begins (drop i text) (bytes_from cs q) ≡ (eqb b (get_or text i 0) && begins (drop (i + 1) text) (bytes_from cs (q + 1)))
+  spelled_some b e = λ j. begins (on j) (run_first cs q b e j)
+
+  pub spelled_other : (b : ℕ) → first (bytes_from cs q) ≡ Some b → (b ≡ get_or text i 0 → ⊥) → begins (drop i text) (bytes_from cs q) ≡ false
+  spelled_other b e ne = spelled_some b e ∙ and_left _ _ (ne_eqb _ _ ne)
+
+  pub spelled_same : (b : ℕ) → first (bytes_from cs q) ≡ Some b → b ≡ get_or text i 0 → begins (drop i text) (bytes_from cs q) ≡ begins (drop (i + 1) text) (bytes_from cs (q + 1))
+  spelled_same b e same = spelled_some b e ∙ ap (λ t. t && begins (drop (i + 1) text) (bytes_from cs (q + 1))) (eq-eqb _ _ same)
 
 -- the text of a sentence from its character k on
 abbrev pub text_from : ℕ → List ℕ → Bool
@@ -66,26 +84,33 @@ pub tail_long : (k sum : ℕ) (rest : List ℕ) → 72 ≤ k → tail_from k sum
 tail_long k sum rest h = cond-false _ _ _ (and_right (text_from k (before_star rest)) _ (and_left _ _ (lt-leb (k + length (before_star rest) + 11) 82 (omega arith))))
 
 -- a turn of the code that reads the text
-module _ (rest : List ℕ) (k sum : ℕ) where
-  pub turn_none : length rest ≤ k → tail_from k sum (drop k rest) ≡ None
-  turn_none h = ap (tail_from k sum) (drop_all k rest h) ∙ tail_empty k sum
+pub turn_none : (cs : List Cell) (q k sum : ℕ) → first (bytes_from cs q) ≡ None → tail_from k sum (bytes_from cs q) ≡ None
+turn_none cs q k sum e = ap (tail_from k sum) (run_empty (bytes_from cs q) e) ∙ tail_empty k sum
 
-  module _ (more : k < length rest) where
-    some : tail_from k sum (drop k rest) ≡ tail_from k sum (get_or rest k 0 ∷ drop (k + 1) rest)
-    some = ap (tail_from k sum) (drop-cons rest k 0 more ∙ ap (λ i. get_or rest k 0 ∷ drop i rest) (sym (add-one k)))
+module _ (cs : List Cell) (q k sum b : ℕ) (read : first (bytes_from cs q) ≡ Some b) where
+  some : tail_from k sum (bytes_from cs q) ≡ tail_from k sum (b ∷ bytes_from cs (q + 1))
+  some = ap (tail_from k sum) (run_first cs q b read)
 
-    pub turn_star : k < 72 → get_or rest k 0 ≡ 42 → tail_from k sum (drop k rest) ≡ cond (begins (closing sum) (drop (k + 1) rest)) (Some (k + 11)) None
-    turn_star h e = some ∙ tail_star k sum _ (drop (k + 1) rest) h e
+  pub turn_star : k < 72 → b ≡ 42 → tail_from k sum (bytes_from cs q) ≡ cond (begins (closing sum) (bytes_from cs (q + 1))) (Some (k + 11)) None
+  turn_star h e = some ∙ tail_star k sum b (bytes_from cs (q + 1)) h e
 
-    pub turn_bad : (get_or rest k 0 ≡ 42 → ⊥) → char_at k (get_or rest k 0) ≡ false → tail_from k sum (drop k rest) ≡ None
-    turn_bad ne e = some ∙ tail_bad k sum _ (drop (k + 1) rest) ne e
+  pub turn_bad : (b ≡ 42 → ⊥) → char_at k b ≡ false → tail_from k sum (bytes_from cs q) ≡ None
+  turn_bad ne e = some ∙ tail_bad k sum b (bytes_from cs (q + 1)) ne e
 
-    pub turn_next : (get_or rest k 0 ≡ 42 → ⊥) → char_at k (get_or rest k 0) ≡ true → tail_from k sum (drop k rest) ≡ tail_from (k + 1) (bit_xor sum (get_or rest k 0)) (drop (k + 1) rest)
-    turn_next ne e = some ∙ tail_next k sum _ (drop (k + 1) rest) ne e
+  pub turn_next : (b ≡ 42 → ⊥) → char_at k b ≡ true → tail_from k sum (bytes_from cs q) ≡ tail_from (k + 1) (bit_xor sum b) (bytes_from cs (q + 1))
+  turn_next ne e = some ∙ tail_next k sum b (bytes_from cs (q + 1)) ne e
 
 name_some : (b : ℕ) → name_char b ≡ true → 0 < b
 name_some zero e = absurd (false≢true e)
 name_some (suc b) e = omega arith
+
+named_some : (bs : List ℕ) (b : ℕ) → named bs ≡ Some b → (first bs ≡ Some b) × (name_char b ≡ true)
+named_some [] b e = let z : ◌≡◌ {A = ℕ} 0 1 = cc in absurd (omega arith)
+named_some (a ∷ bs) b e = let f = some_cond (name_char a) a b e in (ap Some f.1, ap name_char (sym f.1) ∙ f.0)
+
+none_cond : {A : Type 0} (t : Bool) (x : A) → cond t (Some x) None ≡ None → t ≡ false
+none_cond false x e = refl
+none_cond true x e = let z : ◌≡◌ {A = ℕ} 0 1 = cc in absurd (omega arith)
 
 -- what it says of the bytes that a sentence's head stands at their front
 pub record Headed (bs : List ℕ) : Type 0 where
@@ -105,30 +130,57 @@ when_head bs e =
     let f = and_parts _ _ d.1 in
     record { mark = a.0; n1 = b.0; n2 = c.0; n3 = d.0; n4 = f.0; n5 = f.1 }
 
--- without a head there is no sentence
-pub headless : (bs : List ℕ) → (Headed bs → ⊥) → sentence bs ≡ None
-headless bs lacks =
-    ⊎_elim (λ e. absurd (lacks (when_head bs e))) (λ e. cond-false _ _ _ (and_left (is_head bs) _ e)) (cases_Bool (is_head bs))
+module _ (cs : List Cell) (p : ℕ) where
+  pub none_when : (Headed (bytes_from cs p) → ⊥) → None ≡ sentence (bytes_from cs p)
+  none_when lacks =
+      ⊎_elim
+      (λ e. absurd (lacks (when_head (bytes_from cs p) e)))
+      (λ e. sym (cond-false _ _ _ (and_left (is_head (bytes_from cs p)) _ e)))
+      (cases_Bool (is_head (bytes_from cs p)))
 
-pub short : (bs : List ℕ) → length bs < 6 → None ≡ option_map (λ x. x.length) (sentence bs)
-short bs h = sym (ap (option_map (λ x. x.length)) (headless bs (λ head. let long = read_in bs 5 (name_some _ head.n5) in omega arith)))
+  pub unmarked : dollar (bytes_from cs p) ≡ false → None ≡ sentence (bytes_from cs p)
+  unmarked e = none_when (λ h. false≢true (sym e ∙ h.mark))
 
--- the length of a sentence that has a head
-mapped_cond : (b : Bool) (x : Record) → option_map (λ x. x.length) (cond b (Some x) None) ≡ cond b (Some x.length) None
-mapped_cond true x = refl
-mapped_cond false x = refl
+  pub unnamed : (k : ℕ) → (Headed (bytes_from cs p) → name_char (get_or (bytes_from cs p) k 0) ≡ true) → named (bytes_from cs (p + k)) ≡ None → None ≡ sentence (bytes_from cs p)
+  unnamed k asks e =
+      none_when (λ h.
+      let b = get_or (bytes_from cs p) k 0 in
+      let there = byte_in_lem cs p (p + k) k refl (read_in (bytes_from cs p) k (name_some b (asks h))) in
+      let found : named (bytes_from cs (p + k)) ≡ Some b = ap named (run_first cs (p + k) b there) ∙ cond-true (name_char b) _ _ (asks h) in
+      let z : ◌≡◌ {A = ℕ} 0 1 = cc in
+      omega arith)
 
--- the exclusive-or of the five characters
-abbrev pub sum_of : List ℕ → ℕ
-sum_of bs = bit_xor (bit_xor (bit_xor (bit_xor (get_or bs 1 0) (get_or bs 2 0)) (get_or bs 3 0)) (get_or bs 4 0)) (get_or bs 5 0)
+  marked_run : dollar (bytes_from cs p) ≡ true → bytes_from cs p ≡ 36 ∷ bytes_from cs (p + 1)
+  marked_run e =
+      let is = eqb-true (get_or (bytes_from cs p) 0 0) 36 e in
+      let there = byte_in_lem cs p (p + 0) 0 refl (read_in (bytes_from cs p) 0 (omega arith)) in
+      run_first cs p 36 (ap (λ q. first (bytes_from cs q)) (sym (add-zero p)) ∙ there ∙ ap Some is)
 
-pub headed : (bs : List ℕ) → 6 ≤ length bs → is_head bs ≡ true → (rest : List ℕ) → rest ≡ drop 6 bs → tail_of (sum_of bs) rest ≡ option_map (λ x. x.length) (sentence bs)
-headed [] h head rest is = absurd (omega arith)
-headed (s ∷ []) h head rest is = absurd (omega arith)
-headed (s ∷ a ∷ []) h head rest is = absurd (omega arith)
-headed (s ∷ a ∷ b ∷ []) h head rest is = absurd (omega arith)
-headed (s ∷ a ∷ b ∷ c ∷ []) h head rest is = absurd (omega arith)
-headed (s ∷ a ∷ b ∷ c ∷ d ∷ []) h head rest is = absurd (omega arith)
-headed (s ∷ a ∷ b ∷ c ∷ d ∷ e ∷ tail) h head rest is =
-    let bs = s ∷ a ∷ b ∷ c ∷ d ∷ e ∷ tail in
-    ap (tail_of (sum_of bs)) is ∙ sym (mapped_cond (is_head bs && is_tail (name_sum bs) tail) _ ∙ ap (λ t. cond (t && is_tail (name_sum bs) tail) (Some (length (before_star tail) + 11)) None) head)
+  next_run : (k b : ℕ) → named (bytes_from cs (p + k)) ≡ Some b → bytes_from cs (p + k) ≡ b ∷ bytes_from cs (p + (k + 1))
+  next_run k b e = run_first cs (p + k) b (named_some (bytes_from cs (p + k)) b e).0 ∙ ap (λ q. b ∷ bytes_from cs q) (add_assoc p k 1)
+
+  module _ (a b c d e : ℕ) (on : dollar (bytes_from cs p) ≡ true)
+      (ea : named (bytes_from cs (p + 1)) ≡ Some a)
+      (eb : named (bytes_from cs (p + 2)) ≡ Some b)
+      (ec : named (bytes_from cs (p + 3)) ≡ Some c)
+      (ed : named (bytes_from cs (p + 4)) ≡ Some d)
+      (ee : named (bytes_from cs (p + 5)) ≡ Some e) where
+    whole_run : bytes_from cs p ≡ 36 ∷ a ∷ b ∷ c ∷ d ∷ e ∷ bytes_from cs (p + 6)
+    whole_run =
+        marked_run on
+        ∙ ap (λ l. 36 ∷ l) (next_run 1 a ea ∙ ap (λ l. a ∷ l) (next_run 2 b eb ∙ ap (λ l. b ∷ l) (next_run 3 c ec ∙ ap (λ l. c ∷ l) (next_run 4 d ed ∙ ap (λ l. d ∷ l) (next_run 5 e ee)))))
+
+    abbrev sum : ℕ
+    sum = bit_xor (bit_xor (bit_xor (bit_xor a b) c) d) e
+
+    pub tailless : tail_of sum (bytes_from cs (p + 6)) ≡ None → None ≡ sentence (bytes_from cs p)
+    tailless f =
+        let head = is_head (36 ∷ a ∷ b ∷ c ∷ d ∷ e ∷ bytes_from cs (p + 6)) in
+        sym (ap sentence whole_run ∙ cond-false _ _ _ (and_right head _ (none_cond _ _ f)))
+
+    pub stand : (n : ℕ) → tail_of sum (bytes_from cs (p + 6)) ≡ Some n → Some (sentence_of n (c * 65536 + (d * 256 + e))) ≡ sentence (bytes_from cs p)
+    stand n f =
+        let tail = some_cond (is_tail sum (bytes_from cs (p + 6))) _ n f in
+        let ok : (k x : ℕ) → named (bytes_from cs (p + k)) ≡ Some x → name_char x ≡ true = λ k x h. (named_some (bytes_from cs (p + k)) x h).1 in
+        let head : is_head (36 ∷ a ∷ b ∷ c ∷ d ∷ e ∷ bytes_from cs (p + 6)) ≡ true = and_from _ _ (ok 1 a ea) (and_from _ _ (ok 2 b eb) (and_from _ _ (ok 3 c ec) (and_from _ _ (ok 4 d ed) (ok 5 e ee)))) in
+        sym (ap sentence whole_run ∙ cond-true _ _ _ (and_from _ _ head tail.0) ∙ ap (λ m. Some (sentence_of m (c * 65536 + (d * 256 + e)))) tail.1)

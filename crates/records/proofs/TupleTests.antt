@@ -1,12 +1,12 @@
 -- Where a tuple stands, told by what was read.
-use Rattle.std.proofs.Common.{◌≡◌, ℕ, zero, suc, ◌+◌, ◌<◌, ◌≤◌, true, false, ◌&&◌, eqb, List, [], ◌∷◌, length, get_or, is_some, Some, None, Option, sym, refl, ap, ◌∙◌, ⊎_elim, le_of_suc-le-suc, not-suc-le-zero, arith}
+use Rattle.std.proofs.Common.{◌≡◌, ℕ, zero, suc, ◌+◌, ◌*◌, ◌<◌, ◌≤◌, true, false, ◌&&◌, eqb, List, [], ◌∷◌, length, get_or, is_some, Some, None, Option, sym, refl, ap, ◌∙◌, ⊎_elim, le_of_suc-le-suc, not-suc-le-zero, arith}
 use Rattle.std.proofs.lemmas.Bool.{cases_Bool, cond-false, eqb-true, eq-eqb, and_right, and_from, and_parts, leb-true, leb-false, false≢true}
 use Rattle.recording.specs.declared.Cell.{Cell}
 use Rattle.records.specs.declared.kind.Record.{Record}
 use Rattle.records.specs.Grammars.{bytes_from, first, first_two}
 use Rattle.records.specs.Tuples.{pair_at, size_of, sync_mark, is_tuple, tuple}
-use Rattle.records.specs.TupleLaws.{Stood, when_stands, tuple_stands}
-use Rattle.records.specs.ReadingLaws.{byte_next, pair_in, pair_next, some_first, whole_run}
+use Rattle.records.specs.TupleLaws.{Stood, when_stands, tuple_stands, found}
+use Rattle.records.proofs.Reading.{byte_next, pair_in, pair_next, some_first, whole_run}
 use Rattle.recording.specs.Cells.{whole_from}
 use Rattle.std.specs.Option.{option_map}
 
@@ -78,6 +78,34 @@ module _ (cs : List Cell) (p : ℕ) where
           agreed = ap (λ n. pair_at (bytes_from cs p) (n + 14)) head.1 ∙ foot.1 ∙ same ∙ sym head.1;
         } in
         sym (ap (option_map (λ x. x.length)) (tuple_stands (bytes_from cs p) stood) ∙ ap (λ n. Some (n + 16)) head.1)
+
+  -- a tuple of which the length is known
+  module _ (n : ℕ) (told : Some n ≡ option_map (λ x. x.length) (tuple (bytes_from cs p))) where
+    known : (x : Record) × (tuple (bytes_from cs p) ≡ Some x) × (n ≡ x.length)
+    known = go (tuple (bytes_from cs p)) refl told
+      where
+        go : (o : Option Record) → tuple (bytes_from cs p) ≡ o → Some n ≡ option_map (λ x. x.length) o → (x : Record) × (tuple (bytes_from cs p) ≡ Some x) × (n ≡ x.length)
+        go None e t = let z : ◌≡◌ {A = ℕ} 0 1 = cc in absurd (omega arith)
+        go (Some x) e t = (x, e, cc)
+
+    pub read : (a b c d f : ℕ)
+        → first_two (bytes_from cs (p + 2)) ≡ Some a
+        → first_two (bytes_from cs (p + 4)) ≡ Some b
+        → first_two (bytes_from cs (p + 6)) ≡ Some c
+        → first_two (bytes_from cs (p + 8)) ≡ Some d
+        → first_two (bytes_from cs (p + 10)) ≡ Some f
+        → Some (record { length = n; tag = c; source_type = a; source_id = b; time = d + 65536 * f }) ≡ tuple (bytes_from cs p)
+    read a b c d f at2 at4 at6 at8 at10 =
+        let k = known in
+        let w = found (bytes_from cs p) k.0 k.1 in
+        let two : (i v : ℕ) → i ≤ 12 → first_two (bytes_from cs (p + i)) ≡ Some v → pair_at (bytes_from cs p) i ≡ v = λ i v h e. (pair_next cs p (p + i) i refl v (omega (arith, w.0.whole)) e).1 in
+        let size : size_of (bytes_from cs p) + 16 ≡ n = ap (λ (x : Record). x.length) w.1 ∙ sym k.2 in
+        let r2 = two 2 a (omega arith) at2 in
+        let r4 = two 4 b (omega arith) at4 in
+        let r6 = two 6 c (omega arith) at6 in
+        let r8 = two 8 d (omega arith) at8 in
+        let r10 = two 10 f (omega arith) at10 in
+        sym (tuple_stands (bytes_from cs p) w.0 ∙ ap Some (λ j. record { length = size j; tag = r6 j; source_type = r2 j; source_id = r4 j; time = r8 j + 65536 * r10 j }))
 
 -- no tuple, and so no length
 pub none_long : {r : Option ℕ} {o : Option Record} {P : Type 0} → r ≡ None → None ≡ o → (r ≡ option_map (λ x. x.length) o) × (is_some r ≡ true → P)

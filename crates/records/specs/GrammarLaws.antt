@@ -1,5 +1,5 @@
 -- A kind that knows its records by a grammar keeps the laws of records.
-use Rattle.std.specs.Prelude.{◌≡◌, ℕ, zero, suc, ◌+◌, ◌%◌, ◌<◌, ◌≤◌, Bool, true, false, cond, List, [], ◌∷◌, length, get_or, take, drop, Some, None, Option, slice_index_or, refl}
+use Rattle.std.specs.Prelude.{◌≡◌, ℕ, zero, suc, ◌+◌, ◌%◌, ◌<◌, ◌≤◌, Bool, true, false, cond, List, [], ◌∷◌, length, get_or, take, drop, Some, None, slice_index_or, refl}
 use Rattle.std.proofs.Common.{sym, ap, ◌∙◌, suc-le-suc, zero-le, not-suc-le-zero, le_of_suc-le-suc, mod-lt, arith, length-take, length-drop, get_or-drop, get_or-take, take-take}
 use Rattle.std.specs.List.{AllByRecursion}
 use Rattle.std.proofs.lemmas.List.{drop-take}
@@ -49,23 +49,6 @@ lawful M g r = record {
   moves = λ cs p x e ds q same.
       r.alike (bytes_from cs p) (bytes_from ds q) x e (sym (bytes_take x.length (drop q ds)) ∙ ap bytes_of same ∙ bytes_take x.length (drop p cs));
 }
-
-pub all_taken : (n : ℕ) (bs : List ℕ) → AllByRecursion (λ b. b < 256) bs → AllByRecursion (λ b. b < 256) (take n bs)
-all_taken zero bs h = tt
-all_taken (suc n) [] h = tt
-all_taken (suc n) (b ∷ bs) h = (h.0, all_taken n bs h.1)
-
--- the first M bytes decide what stands at the front of a run
-pub front_decides : (M : ℕ) (g : Grammar) → Reads M g → (bs : List ℕ) → AllByRecursion (λ b. b < 256) bs → AllByRecursion (λ b. b < 256) (take M bs) → g (take M bs) ≡ g bs
-front_decides M g r bs all some = go (g bs) refl (g (take M bs)) refl
-  where
-    short : (n : ℕ) → n ≤ M → take n (take M bs) ≡ take n bs
-    short n h = take-take n M bs h
-
-    go : (o : Option Record) → g bs ≡ o → (q : Option Record) → g (take M bs) ≡ q → g (take M bs) ≡ g bs
-    go (Some x) e q f = r.alike bs (take M bs) x e (short x.length (r.inside bs x all e).1) ∙ sym e
-    go None e None f = f ∙ sym e
-    go None e (Some x) f = f ∙ sym (r.alike (take M bs) bs x f (sym (short x.length (r.inside (take M bs) x some f).1)))
 
 -- a condition that stands before an answer
 pub some_cond : {A : Type 0} (b : Bool) (v x : A) → cond b (Some v) None ≡ Some x → (b ≡ true) × (v ≡ x)

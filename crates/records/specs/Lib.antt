@@ -2,7 +2,6 @@ pub mod Records
 pub mod Grammars
 pub mod GrammarLaws
 pub mod Tuples
-pub mod ReadingLaws
 pub mod TupleLaws
 pub mod Sentences
 pub mod SentenceLaws

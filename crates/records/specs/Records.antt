@@ -3,7 +3,6 @@ use Rattle.std.specs.Prelude.{◌≡◌, ℕ, ◌+◌, ◌<◌, ◌≤◌, List,
 use Rattle.recording.specs.declared.Cell.{Cell}
 use Rattle.recording.specs.declared.Cell.TheVariants.{Byte, Lost}
 use Rattle.recording.specs.Cells.{Stand}
-use Rattle.records.specs.declared.kind.Details.{Details}
 use Rattle.records.specs.declared.kind.Record.{Record}
 
 -- for each recording and place: nothing, or the five numbers of the record that stands there
@@ -13,10 +12,6 @@ Meaning = List Cell → ℕ → Option Record
 -- the run of n cells at a place
 abbrev pub run : List Cell → ℕ → ℕ → List Cell
 run cs p n = take n (drop p cs)
-
--- the record of a length and of what it tells beside it
-abbrev pub record_of : ℕ → Details → Record
-record_of n d = record { length = n; tag = d.tag; source_type = d.source_type; source_id = d.source_id; time = d.time }
 
 -- wherever the bytes stand, no record begins at the first n of their places
 abbrev pub Vacant : Meaning → List ℕ → ℕ → Type 0

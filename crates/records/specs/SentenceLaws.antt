@@ -4,13 +4,10 @@ use Rattle.std.proofs.Common.{sym, ap, ◌∙◌, zero-le, suc-le-suc, not-suc-l
 use Rattle.std.specs.List.{AllByRecursion}
 use Rattle.std.proofs.lemmas.Bool.{and_parts, leb-true, false≢true}
 use Rattle.records.specs.declared.kind.Record.{Record}
-use Rattle.std.specs.Option.{unwrap_or}
-use Rattle.recording.specs.declared.Cell.{Cell}
-use Rattle.records.specs.Records.{Laws, record_of}
-use Rattle.records.specs.Grammars.{meaning, bytes_from}
-use Rattle.records.specs.ReadingLaws.{byte_in_lem}
-use Rattle.records.specs.GrammarLaws.{Reads, lawful, all_bytes, some_cond, same_at, same_part}
-use Rattle.records.specs.Sentences.{name_char, is_text, before_star, xored, closing, begins, is_head, name_sum, is_tail, sentence_of, sentence, byte_from, sentence_details}
+use Rattle.records.specs.Records.{Laws}
+use Rattle.records.specs.Grammars.{meaning}
+use Rattle.records.specs.GrammarLaws.{Reads, lawful, some_cond, same_at, same_part}
+use Rattle.records.specs.Sentences.{name_char, is_text, before_star, xored, closing, begins, is_head, name_sum, is_tail, sentence_of, sentence}
 
 pub begins_long : (xs bs : List ℕ) → begins xs bs ≡ true → length xs ≤ length bs
 begins_long [] bs e = zero-le
@@ -76,16 +73,3 @@ sentence_reads = record { inside = sentence_inside; alike = sentence_alike }
 
 pub sentence_laws : Laws 82 (meaning sentence)
 sentence_laws = lawful 82 sentence sentence_reads
-
--- a sentence that stands tells what is read at its place
-pub sentence_told : (cs : List Cell) (p : ℕ) (x : Record) → meaning sentence cs p ≡ Some x → record_of x.length (sentence_details cs p) ≡ x
-sentence_told cs p x e =
-    let bs = bytes_from cs p in
-    let f = some_cond (is_head bs && is_tail (name_sum bs) (drop 6 bs)) _ x e in
-    let n : length (before_star (drop 6 bs)) + 11 ≡ x.length = ap (λ (y : Record). y.length) f.1 in
-    let inside = sentence_inside bs x (all_bytes (drop p cs)) e in
-    let one : (i : ℕ) → i < 11 → byte_from cs (p + i) ≡ slice_index_or bs i 0 = λ i h. ap (λ o. unwrap_or o 0) (byte_in_lem cs p (p + i) i refl (omega (arith, inside.2))) in
-    let c = one 3 (omega arith) in
-    let d = one 4 (omega arith) in
-    let l = one 5 (omega arith) in
-    (λ j. record { length = sym n j; tag = c j * 65536 + (d j * 256 + l j); source_type = 0; source_id = 0; time = 0 }) ∙ f.1

@@ -1,10 +1,7 @@
 -- Sentences of NMEA 0183: `$`, five characters, nothing or a comma and a text, `*`, two digits, CR, LF.
 use Rattle.std.specs.Prelude.{ℕ, suc, ◌+◌, ◌*◌, ◌/◌, ◌%◌, Bool, true, false, cond, not, ◌&&◌, ◌||◌, List, [], ◌∷◌, length, take, drop, Some, None, Option, ◌==◌, bit_xor, nat_le, nat_lt, slice_index}
-use Rattle.std.specs.Option.{unwrap_or}
-use Rattle.recording.specs.declared.Cell.{Cell}
-use Rattle.records.specs.declared.kind.Details.{Details}
 use Rattle.records.specs.declared.kind.Record.{Record}
-use Rattle.records.specs.Grammars.{Grammar, bytes_from, first}
+use Rattle.records.specs.Grammars.{Grammar}
 
 -- A to Z or 0 to 9
 abbrev pub name_char : ℕ → Bool
@@ -83,14 +80,6 @@ sentence bs = cond (is_head bs && is_tail (name_sum bs) (drop 6 bs)) (Some (sent
 -- what may stand at each place of the text: a comma comes first
 abbrev pub char_at : ℕ → ℕ → Bool
 char_at k b = cond (k == 0) (b == 44) (text_char b)
-
--- a byte at a place, or 0 where it is not there
-abbrev pub byte_from : List Cell → ℕ → ℕ
-byte_from cs p = unwrap_or (first (bytes_from cs p)) 0
-
--- what is read beside the length
-abbrev pub sentence_details : List Cell → ℕ → Details
-sentence_details cs p = record { tag = byte_from cs (p + 3) * 65536 + (byte_from cs (p + 4) * 256 + byte_from cs (p + 5)); source_type = 0; source_id = 0; time = 0 }
 
 -- a first byte that may stand in the address
 abbrev pub named : List ℕ → Option ℕ

@@ -1,16 +1,13 @@
 -- Tuples keep the laws of records.
-use Rattle.std.specs.Prelude.{◌≡◌, ℕ, zero, suc, ◌+◌, ◌*◌, ◌<◌, ◌≤◌, true, List, [], ◌∷◌, length, get_or, take, Some, None, slice_index, slice_index_or, refl}
+use Rattle.std.specs.Prelude.{◌≡◌, ℕ, zero, suc, ◌+◌, ◌*◌, ◌<◌, ◌≤◌, true, List, [], ◌∷◌, length, get_or, take, Some, None, slice_index, slice_index_or}
 use Rattle.std.proofs.Common.{sym, ap, ◌∙◌, arith}
 use Rattle.std.specs.List.{AllByRecursion}
 use Rattle.std.proofs.lemmas.Bool.{and_parts, and_from, eqb-true, eq-eqb, leb-true, le-leb, cond-true}
 use Rattle.records.specs.declared.kind.Record.{Record}
-use Rattle.std.specs.Option.{unwrap_or}
-use Rattle.recording.specs.declared.Cell.{Cell}
-use Rattle.records.specs.Records.{Laws, record_of}
-use Rattle.records.specs.Grammars.{meaning, bytes_from}
+use Rattle.records.specs.Records.{Laws}
+use Rattle.records.specs.Grammars.{meaning}
 use Rattle.records.specs.GrammarLaws.{Reads, lawful, some_cond, same_at, as_long}
-use Rattle.records.specs.ReadingLaws.{pair_in}
-use Rattle.records.specs.Tuples.{pair_at, size_of, is_tuple, tuple_of, tuple, pair_from, tuple_details}
+use Rattle.records.specs.Tuples.{pair_at, size_of, is_tuple, tuple_of, tuple}
 
 -- two bytes hold a number below 65,536
 byte_fits : (bs : List ℕ) → AllByRecursion (λ b. b < 256) bs → (i : ℕ) → slice_index bs i < 256
@@ -74,11 +71,3 @@ tuple_reads = record {
 
 pub tuple_laws : Laws 65551 (meaning tuple)
 tuple_laws = lawful 65551 tuple tuple_reads
-
--- a tuple that stands tells what is read at its place
-pub tuple_told : (cs : List Cell) (p : ℕ) (x : Record) → meaning tuple cs p ≡ Some x → record_of x.length (tuple_details cs p) ≡ x
-tuple_told cs p x e =
-    let f = found (bytes_from cs p) x e in
-    let two : (i : ℕ) → i ≤ 12 → pair_from cs (p + i) ≡ pair_at (bytes_from cs p) i = λ i h. ap (λ o. unwrap_or o 0) (pair_in cs p (p + i) i refl (omega (arith, f.0.whole))) in
-    let size : x.length ≡ size_of (bytes_from cs p) + 16 = ap (λ (y : Record). y.length) (sym f.1) in
-    (λ j. record { length = size j; tag = two 6 (omega arith) j; source_type = two 2 (omega arith) j; source_id = two 4 (omega arith) j; time = two 8 (omega arith) j + 65536 * two 10 (omega arith) j }) ∙ f.1

@@ -2,11 +2,8 @@
 -- The header: 0 Sync (bytes 00 80), 2 SourceType, 4 SourceID, 6 DataType, 8 DataTime (4 bytes), 12 DataSize1, the size of the body.
 -- The footer is DataSize2, the size again.
 use Rattle.std.specs.Prelude.{ℕ, ◌+◌, ◌*◌, Bool, cond, ◌&&◌, List, length, Some, None, ◌==◌, nat_le, slice_index}
-use Rattle.std.specs.Option.{unwrap_or}
-use Rattle.recording.specs.declared.Cell.{Cell}
-use Rattle.records.specs.declared.kind.Details.{Details}
 use Rattle.records.specs.declared.kind.Record.{Record}
-use Rattle.records.specs.Grammars.{Grammar, bytes_from, first_two}
+use Rattle.records.specs.Grammars.{Grammar}
 
 -- two bytes, and four, the lowest first
 abbrev pub pair_at : List ℕ → ℕ → ℕ
@@ -33,11 +30,3 @@ tuple_of bs = record { length = size_of bs + 16; tag = pair_at bs 6; source_type
 
 abbrev pub tuple : Grammar
 tuple bs = cond (is_tuple bs) (Some (tuple_of bs)) None
-
--- two bytes at a place, or 0 where they are not there
-abbrev pub pair_from : List Cell → ℕ → ℕ
-pair_from cs p = unwrap_or (first_two (bytes_from cs p)) 0
-
--- what is read beside the length
-abbrev pub tuple_details : List Cell → ℕ → Details
-tuple_details cs p = record { tag = pair_from cs (p + 6); source_type = pair_from cs (p + 2); source_id = pair_from cs (p + 4); time = pair_from cs (p + 8) + 65536 * pair_from cs (p + 10) }

@@ -1,7 +1,7 @@
 // What a record kind is.
 ghost use Rattle.std.specs.Prelude.{◌≡◌, ℕ, ◌≤◌, length};
+ghost use Rattle.records.specs.Records.{Meaning, Laws, Vacant};
 ghost use Rattle.std.specs.Option.{option_map};
-ghost use Rattle.records.specs.Records.{Meaning, Laws, record_of, Vacant};
 
 use recording::Store;
 
@@ -13,30 +13,6 @@ pub struct Record {
     pub source_type: u16,
     pub source_id: u16,
     pub time: u32,
-}
-
-// What a record tells beside its length.
-#[derive(Clone, Copy)]
-pub(crate) struct Details {
-    pub(crate) tag: u32,
-    pub(crate) source_type: u16,
-    pub(crate) source_id: u16,
-    pub(crate) time: u32,
-}
-
-impl Details {
-    // The record of these details that has a length.
-    pub(crate) fn with_length(&self, length: u32) -> Record
-        ensures { result ≡ record_of length self.now }
-    {
-        Record {
-            length,
-            tag: self.tag,
-            source_type: self.source_type,
-            source_id: self.source_id,
-            time: self.time,
-        }
-    }
 }
 
 // A record kind says where its records stand, and what each of them is.

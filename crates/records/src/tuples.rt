@@ -1,12 +1,12 @@
 // Tuples: a header of 14 bytes, a body, and a footer that repeats the body's size.
-ghost use Rattle.std.specs.Prelude.{◌≡◌, ◌+◌, ◌<◌, true, is_some};
+ghost use Rattle.std.specs.Prelude.{◌≡◌, ◌<◌, true, is_some};
 ghost use Rattle.std.specs.Option.{option_map};
 ghost use Rattle.records.specs.Grammars.{bytes_from, meaning};
-ghost use Rattle.records.specs.Tuples.{sync_mark, tuple, pair_from, tuple_details};
+ghost use Rattle.records.specs.Tuples.{sync_mark, tuple};
 ghost use Rattle.records.specs.TupleLaws.{tuple_laws};
 
 use crate::bytes::{byte, pair};
-use crate::kind::{Details, Record, RecordKind};
+use crate::kind::{Record, RecordKind};
 use crate::search::Pair;
 use recording::Store;
 
@@ -64,37 +64,22 @@ fn tuple_length<S: Store>(store: &S, at: u32) -> Option<u32>
     }
 }
 
-// Two bytes, or 0 where they are not there.
-fn pair_or_zero<S: Store>(store: &S, at: u32, skip: u32) -> u16
-    ensures { result ≡ pair_from (S.Store.cells store.now) (at + skip) }
-{
-    match at.checked_add(skip) {
-        Some(place) => pair(store, place).unwrap_or(0),
-        None => 0,
-    }
-}
-
-// What is read of a tuple beside its length.
-fn details<S: Store>(store: &S, at: u32) -> Details
-    ensures { result ≡ tuple_details (S.Store.cells store.now) at }
-{
-    let low_time = pair_or_zero(store, at, 8);
-    let high_time = pair_or_zero(store, at, 10);
-    Details {
-        tag: pair_or_zero(store, at, 6) as u32,
-        source_type: pair_or_zero(store, at, 2),
-        source_id: pair_or_zero(store, at, 4),
-        time: low_time as u32 + 65536 * high_time as u32,
-    }
-}
-
 fn tuple_at<S: Store>(store: &S, at: u32) -> Option<Record>
     ensures { result ≡ meaning tuple (S.Store.cells store.now) at }
 {
-    match tuple_length(store, at) {
-        Some(length) => Some(details(store, at).with_length(length)),
-        None => None,
-    }
+    let length = tuple_length(store, at)?;
+    let source_type = pair(store, at + 2)?;
+    let source_id = pair(store, at + 4)?;
+    let data_type = pair(store, at + 6)?;
+    let low_time = pair(store, at + 8)?;
+    let high_time = pair(store, at + 10)?;
+    Some(Record {
+        length,
+        tag: data_type as u32,
+        source_type,
+        source_id,
+        time: low_time as u32 + 65536 * high_time as u32,
+    })
 }
 
 impl RecordKind for Tuples {

@@ -1,6 +1,6 @@
 use Rattle.std.proofs.Common.{sym, ap, ◌∙◌}
 use Rattle.records.specs.Grammars.{held}
-use Rattle.records.specs.ReadingLaws.{first_cell}
+use Rattle.records.proofs.Reading.{first_cell}
 use Rattle.records.proofs.bytes.byte.Goals as goal
 
 pub returns : goal.returns

@@ -1,5 +1,5 @@
 use Rattle.std.proofs.Common.{◌+◌, ◌*◌, Some, sym, ◌∙◌, arith}
-use Rattle.records.specs.ReadingLaws.{within, no_pair, the_pair}
+use Rattle.records.proofs.Reading.{within, no_pair, the_pair}
 use Rattle.records.proofs.bytes.pair.Goals as goal
 
 pub overflow_add-at : goal.overflow_add-at

@@ -1,6 +1,6 @@
 use Rattle.std.proofs.Common.{eqb, sym, ap, arith}
 use Rattle.records.specs.Grammars.{bytes_from}
-use Rattle.records.specs.ReadingLaws.{within, some_first}
+use Rattle.records.proofs.Reading.{within, some_first}
 use Rattle.records.proofs.sentences.marked.Goals as goal
 
 pub returns-in-Some : goal.returns-in-Some

@@ -1,6 +1,6 @@
 use Rattle.std.proofs.Common.{◌+◌, sym, refl, arith}
 use Rattle.std.proofs.lemmas.Bool.{false≢true}
-use Rattle.records.specs.ReadingLaws.{within, some_first, byte_end}
+use Rattle.records.proofs.Reading.{within, some_first, byte_end}
 use Rattle.records.specs.Grammars.{bytes_from}
 use Rattle.records.proofs.TupleTests.{no_mark, mark}
 use Rattle.records.proofs.tuples.synced.Goals as goal

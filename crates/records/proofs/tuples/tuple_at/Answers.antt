@@ -1,9 +1,23 @@
-use Rattle.std.proofs.Common.{Some, ap, ◌∙◌}
-use Rattle.records.specs.Records.{record_of}
-use Rattle.records.specs.TupleLaws.{tuple_told}
-use Rattle.records.proofs.Details.{joined}
+use Rattle.std.proofs.Common.{sym, ◌∙◌, arith}
+use Rattle.records.proofs.TupleTests.{unread, read}
 use Rattle.records.proofs.tuples.tuple_at.Goals as goal
 
-pub returns-in-Some : goal.returns-in-Some
-returns-in-Some g c =
-    ap Some (c.with_length.ensures ∙ ap (record_of _) c.details.ensures) ∙ joined _ _ _ c.in-Some.ensures.is (tuple_told (g.S.Store.cells c.args.store.now) c.args.at)
+pub returns-in_err-source_type : goal.returns-in_err-source_type
+returns-in_err-source_type g c = c.from_residual-in_err-source_type.ensures ∙ unread (g.S.Store.cells c.args.store.now) c.args.at 2 (omega arith) (sym c.in_err-source_type.ensures)
+
+pub returns-in_err-source_id : goal.returns-in_err-source_id
+returns-in_err-source_id g c = c.from_residual-in_err-source_id.ensures ∙ unread (g.S.Store.cells c.args.store.now) c.args.at 4 (omega arith) (sym c.in_err-source_id.ensures)
+
+pub returns-in_err-data_type : goal.returns-in_err-data_type
+returns-in_err-data_type g c = c.from_residual-in_err-data_type.ensures ∙ unread (g.S.Store.cells c.args.store.now) c.args.at 6 (omega arith) (sym c.in_err-data_type.ensures)
+
+pub returns-in_err-low_time : goal.returns-in_err-low_time
+returns-in_err-low_time g c = c.from_residual-in_err-low_time.ensures ∙ unread (g.S.Store.cells c.args.store.now) c.args.at 8 (omega arith) (sym c.in_err-low_time.ensures)
+
+pub returns-in_err-high_time : goal.returns-in_err-high_time
+returns-in_err-high_time g c = c.from_residual-in_err-high_time.ensures ∙ unread (g.S.Store.cells c.args.store.now) c.args.at 10 (omega arith) (sym c.in_err-high_time.ensures)
+
+pub returns : goal.returns
+returns g c =
+    read (g.S.Store.cells c.args.store.now) c.args.at _ c.in_ok-length.ensures.is _ _ _ _ _ (sym c.in_ok-source_type.ensures) (sym c.in_ok-source_id.ensures)
+    (sym c.in_ok-data_type.ensures) (sym c.in_ok-low_time.ensures) (sym c.in_ok-high_time.ensures)

@@ -1,13 +1,11 @@
--- What is read at a place of a recording, told by the run of bytes at an earlier place.
-use Rattle.std.specs.Prelude.{◌≡◌, ℕ, zero, suc, ◌+◌, ◌*◌, ◌<◌, ◌≤◌, false, cond, leb, List, [], ◌∷◌, length, take, drop, is_some, Some, None, Ok, Err, Option, Result, nat_le, slice_index, refl}
-use Rattle.std.proofs.Common.{sym, ap, ◌∙◌, suc-le-suc, not-suc-le-zero, le_of_suc-le-suc, add-zero, mod-eq_of_lt, arith, length-drop, drop_of_length-le, get_or-drop, drop-drop, ⊎_elim}
-use Rattle.std.specs.List.{AllByRecursion}
+-- Reads of a store at a place, told by the run of bytes at an earlier place.
+use Rattle.std.proofs.Common.{◌≡◌, ℕ, zero, suc, ◌+◌, ◌*◌, ◌<◌, ◌≤◌, false, cond, leb, List, [], ◌∷◌, length, get_or, drop, is_some, Some, None, Ok, Err, Option, Result, sym, refl, ap, ◌∙◌, ⊎_elim, le_of_suc-le-suc, not-suc-le-zero, add-zero, mod-eq_of_lt, arith, length-drop, get_or-drop, drop-drop}
 use Rattle.recording.specs.declared.Cell.{Cell}
 use Rattle.recording.specs.declared.Cell.TheVariants.{Byte, Lost}
 use Rattle.recording.specs.declared.PastEnd.{PastEnd}
 use Rattle.recording.specs.Cells.{cell_at, is_byte, whole_from, Stand}
-use Rattle.records.specs.Grammars.{Grammar, meaning, bytes_of, bytes_from, held, first, first_two}
-use Rattle.records.specs.GrammarLaws.{Reads, bytes_within, all_bytes, all_taken, front_decides}
+use Rattle.records.specs.Grammars.{bytes_of, bytes_from, held, first, first_two}
+use Rattle.records.specs.GrammarLaws.{bytes_within}
 use Rattle.std.proofs.lemmas.Bool.{le-leb, lt-leb, cases_lt}
 use Rattle.records.specs.Tuples.{pair_at}
 
@@ -25,11 +23,11 @@ drop_bytes (suc k) [] h = refl
 drop_bytes (suc k) (Byte b ∷ cs) h = drop_bytes k cs (le_of_suc-le-suc h)
 drop_bytes (suc k) (Lost ∷ cs) h = absurd (not-suc-le-zero h)
 
-pub some_first : (bs : List ℕ) (b : ℕ) → first bs ≡ Some b → (1 ≤ length bs) × (slice_index bs 0 ≡ b)
+pub some_first : (bs : List ℕ) (b : ℕ) → first bs ≡ Some b → (1 ≤ length bs) × (get_or bs 0 0 ≡ b)
 some_first [] b e = let z : ◌≡◌ {A = ℕ} 0 1 = cc in absurd (omega arith)
 some_first (a ∷ bs) b e = (omega arith, cc)
 
-first_some : (bs : List ℕ) → 1 ≤ length bs → first bs ≡ Some (slice_index bs 0)
+first_some : (bs : List ℕ) → 1 ≤ length bs → first bs ≡ Some (get_or bs 0 0)
 first_some [] h = absurd (not-suc-le-zero h)
 first_some (a ∷ bs) h = refl
 
@@ -48,27 +46,23 @@ two_some (a ∷ []) h = absurd (not-suc-le-zero (le_of_suc-le-suc h))
 two_some (a ∷ b ∷ bs) h = refl
 
 pair_drop : (bs : List ℕ) (k : ℕ) → pair_at (drop k bs) 0 ≡ pair_at bs k
-pair_drop bs k = λ j. (get_or-drop k bs 0 0 ∙ ap (λ i. slice_index bs i) (add-zero k)) j + 256 * get_or-drop k bs 1 0 j
+pair_drop bs k = λ j. (get_or-drop k bs 0 0 ∙ ap (λ i. get_or bs i 0) (add-zero k)) j + 256 * get_or-drop k bs 1 0 j
 
 -- a byte at a place is of the recording
 pub within : (cs : List Cell) (p b : ℕ) → first (bytes_from cs p) ≡ Some b → p < length cs
 within cs p b e = omega (arith, (some_first (bytes_from cs p) b e).0, bytes_within (drop p cs), length-drop p cs)
-
--- past the end there is no byte
-pub none_past : (cs : List Cell) (p : ℕ) → length cs ≤ p → [] ≡ bytes_from cs p
-none_past cs p h = sym (ap bytes_of (drop_of_length-le cs h))
 
 -- the place q is k bytes or less past p
 module _ (cs : List Cell) (p q k : ℕ) (past : q ≡ p + k) where
   pub later : k ≤ length (bytes_from cs p) → bytes_from cs q ≡ drop k (bytes_from cs p)
   later h = ap (bytes_from cs) past ∙ ap bytes_of (sym (drop-drop k p cs)) ∙ drop_bytes k (drop p cs) h
 
-  pub byte_in_lem : k + 1 ≤ length (bytes_from cs p) → first (bytes_from cs q) ≡ Some (slice_index (bytes_from cs p) k)
+  pub byte_in_lem : k + 1 ≤ length (bytes_from cs p) → first (bytes_from cs q) ≡ Some (get_or (bytes_from cs p) k 0)
   byte_in_lem h =
       ap first (later (omega arith)) ∙ first_some (drop k (bytes_from cs p)) (omega (arith, length-drop k (bytes_from cs p)))
-      ∙ ap Some (get_or-drop k (bytes_from cs p) 0 0 ∙ ap (λ i. slice_index (bytes_from cs p) i) (add-zero k))
+      ∙ ap Some (get_or-drop k (bytes_from cs p) 0 0 ∙ ap (λ i. get_or (bytes_from cs p) i 0) (add-zero k))
 
-  pub byte_next : (b : ℕ) → k ≤ length (bytes_from cs p) → first (bytes_from cs q) ≡ Some b → (k + 1 ≤ length (bytes_from cs p)) × (slice_index (bytes_from cs p) k ≡ b)
+  pub byte_next : (b : ℕ) → k ≤ length (bytes_from cs p) → first (bytes_from cs q) ≡ Some b → (k + 1 ≤ length (bytes_from cs p)) × (get_or (bytes_from cs p) k 0 ≡ b)
   byte_next b h e =
       let more = some_first (drop k (bytes_from cs p)) b (ap first (sym (later h)) ∙ e) in
       let long : k + 1 ≤ length (bytes_from cs p) = omega (arith, more.0, length-drop k (bytes_from cs p)) in
@@ -122,16 +116,16 @@ is_byte_lem (Ok (Byte b)) = refl
 is_byte_lem (Ok Lost) = refl
 is_byte_lem (Err e) = refl
 
-leb-suc : (m n : ℕ) → nat_le m n ≡ nat_le (suc m) (suc n)
+leb-suc : (m n : ℕ) → leb m n ≡ leb (suc m) (suc n)
 leb-suc m n = ⊎_elim (λ lt. lt-leb m n lt ∙ sym (lt-leb (suc m) (suc n) (omega arith))) (λ le. le-leb m n le ∙ sym (le-leb (suc m) (suc n) (omega arith))) (cases_lt n m)
 
-pub whole_run : (n : ℕ) (cs : List Cell) (p : ℕ) → whole_from cs p n ≡ nat_le n (length (bytes_from cs p))
+pub whole_run : (n : ℕ) (cs : List Cell) (p : ℕ) → whole_from cs p n ≡ leb n (length (bytes_from cs p))
 unfolding whole_from
 whole_run zero cs p = sym (le-leb 0 (length (bytes_from cs p)) (omega arith))
 whole_run (suc n) cs p = go (first (bytes_from cs p)) refl (is_byte_lem (cell_at cs p) ∙ ap is_some (sym (first_cell cs p))) (whole_run n cs (suc p))
   where
-    go : (o : Option ℕ) → first (bytes_from cs p) ≡ o → is_byte (cell_at cs p) ≡ is_some (first (bytes_from cs p)) → whole_from cs (suc p) n ≡ nat_le n (length (bytes_from cs (suc p)))
-        → cond (is_byte (cell_at cs p)) (whole_from cs (suc p) n) false ≡ nat_le (suc n) (length (bytes_from cs p))
+    go : (o : Option ℕ) → first (bytes_from cs p) ≡ o → is_byte (cell_at cs p) ≡ is_some (first (bytes_from cs p)) → whole_from cs (suc p) n ≡ leb n (length (bytes_from cs (suc p)))
+        → cond (is_byte (cell_at cs p)) (whole_from cs (suc p) n) false ≡ leb (suc n) (length (bytes_from cs p))
     go None e b more =
         (λ j. cond ((b ∙ ap is_some e) j) (whole_from cs (suc p) n) false) ∙ sym (lt-leb (suc n) (length (bytes_from cs p)) (omega (arith, none_first (bytes_from cs p) e)))
     go (Some x) e b more =
@@ -140,31 +134,6 @@ whole_run (suc n) cs p = go (first (bytes_from cs p)) refl (is_byte_lem (cell_at
         (λ j. cond ((b ∙ ap is_some e) j) (more j) false) ∙ leb-suc n (length (bytes_from cs (suc p))) ∙ sym (ap (leb (suc n)) long)
 
 -- bytes that stand in a recording, and the run there
-module _ (cs : List Cell) (p : ℕ) (bs : List ℕ) (stand : Stand cs p bs) (bytes : (k : ℕ) → slice_index bs k < 256) where
-  pub stand_byte : (k : ℕ) → k < length bs → first (bytes_from cs (p + k)) ≡ Some (slice_index bs k)
+module _ (cs : List Cell) (p : ℕ) (bs : List ℕ) (stand : Stand cs p bs) (bytes : (k : ℕ) → get_or bs k 0 < 256) where
+  pub stand_byte : (k : ℕ) → k < length bs → first (bytes_from cs (p + k)) ≡ Some (get_or bs k 0)
   stand_byte k h = first_cell cs (p + k) ∙ ap held (stand k h) ∙ ap Some (mod-eq_of_lt (bytes k))
-
-stand_rest : (cs : List Cell) (p b : ℕ) (bs : List ℕ) → Stand cs p (b ∷ bs) → Stand cs (p + 1) bs
-stand_rest cs p b bs stand k h =
-    let next : p + 1 + k ≡ p + suc k = omega arith in
-    ap (cell_at cs) next ∙ stand (suc k) (suc-le-suc h)
-
--- so far as they stand, they are that run
-pub stand_front : (n : ℕ) (cs : List Cell) (p : ℕ) (bs : List ℕ) → n ≤ length bs → Stand cs p bs → ((k : ℕ) → slice_index bs k < 256) → take n bs ≡ take n (bytes_from cs p)
-stand_front zero cs p bs h stand bytes = refl
-stand_front (suc n) cs p [] h stand bytes = absurd (not-suc-le-zero h)
-stand_front (suc n) cs p (b ∷ bs) h stand bytes =
-    let here : first (bytes_from cs p) ≡ Some b = ap (λ q. first (bytes_from cs q)) (sym (add-zero p)) ∙ stand_byte cs p (b ∷ bs) stand bytes 0 (omega arith) in
-    ap (λ l. b ∷ l) (stand_front n cs (p + 1) bs (le_of_suc-le-suc h) (stand_rest cs p b bs stand) (λ k. bytes (suc k))) ∙ sym (ap (take (suc n)) (run_first cs p b here))
-
-pub all_below : (bs : List ℕ) → ((k : ℕ) → slice_index bs k < 256) → AllByRecursion (λ b. b < 256) bs
-all_below [] h = tt
-all_below (b ∷ bs) h = (h 0, all_below bs (λ k. h (suc k)))
-
--- a run of M bytes or more decides what stands where it stands
-pub run_decides : (M : ℕ) (g : Grammar) → Reads M g → (cs : List Cell) (p : ℕ) (bs : List ℕ) → M ≤ length bs → Stand cs p bs → ((k : ℕ) → slice_index bs k < 256) → g bs ≡ meaning g cs p
-run_decides M g r cs p bs long stand bytes =
-    let all = all_below bs bytes in
-    let same = stand_front M cs p bs long stand bytes in
-    let there = all_bytes (drop p cs) in
-    sym (front_decides M g r bs all (all_taken M bs all)) ∙ ap g same ∙ front_decides M g r (bytes_from cs p) there (all_taken M (bytes_from cs p) there)
