@@ -84,9 +84,9 @@ module _ {S K : Type 0} {s : Stores S} {k : Kinds K} {vs : List Visit} {x : Inde
           moved = sym (ap (λ u. visited (meaning_of k x) (cells_of s x) u (progress y left)) none) ∙ sofar.moved;
         }
 
-visits_join : (m : Meaning) (cs : List Cell) (vs ws : List Visit) (s : Progress) → visited m cs (vs ++ ws) s ≡ visited m cs ws (visited m cs vs s)
-visits_join m cs [] ws s = refl
-visits_join m cs (v ∷ vs) ws s = visits_join m cs vs ws (after m cs v.call s)
+visits_join : (m : Meaning) (es : List Cell) (vs ws : List Visit) (s : Progress) → visited m es (vs ++ ws) s ≡ visited m es ws (visited m es vs s)
+visits_join m es [] ws s = refl
+visits_join m es (v ∷ vs) ws s = visits_join m es vs ws (after m es v.call s)
 
 pub serves : {S K : Type 0} (s : Stores S) (k : Kinds K) → ((a : K) → Laws k.longest (k.stands a)) → {vs : List Visit} {x : Index S K s k} {table : List Row} {buffer : List ℕ} {noted : List Visit} {y : Index S K s k} {left : List Row} {filled : List ℕ}
     → Ran s k vs x table buffer noted y left filled → (start : List Row) → Opened s k start x table → Serves s k start y left
