@@ -1,7 +1,7 @@
 // What may be wrong with a body, and with a tuple.
 ghost use Rattle.std.specs.Prelude.{◌≡◌};
 ghost use Rattle.bodies.specs.Faults.{user_fault, body_fault, tuple_fault, beside, tuple_fault_of};
-ghost use Rattle.bodies.specs.declared.fault.BodyFault.TheVariants.{Members as inMembers, Packets as inPackets, User as inUser};
+ghost use Rattle.bodies.specs.declared.fault.BodyFault.TheVariants.{Members as in_members, Packets as in_packets, User as in_user};
 ghost use Rattle.bodies.specs.declared.fault.Wrong.TheVariants.{Body as in_body};
 
 use layouts::fault::LayoutFault;
@@ -92,7 +92,7 @@ impl Refusal for TupleFault {
 }
 
 impl From<LayoutFault> for BodyFault {
-    ghost from_gives = { λ x y. y ≡ inMembers x };
+    ghost from_gives = { λ x y. y ≡ in_members x };
 
     fn from(wrong: LayoutFault) -> BodyFault {
         BodyFault::Members(wrong)
@@ -100,7 +100,7 @@ impl From<LayoutFault> for BodyFault {
 }
 
 impl From<PacketFault> for BodyFault {
-    ghost from_gives = { λ x y. y ≡ inPackets x };
+    ghost from_gives = { λ x y. y ≡ in_packets x };
 
     fn from(wrong: PacketFault) -> BodyFault {
         BodyFault::Packets(wrong)
@@ -108,7 +108,7 @@ impl From<PacketFault> for BodyFault {
 }
 
 impl From<UserFault> for BodyFault {
-    ghost from_gives = { λ x y. y ≡ inUser x };
+    ghost from_gives = { λ x y. y ≡ in_user x };
 
     fn from(wrong: UserFault) -> BodyFault {
         BodyFault::User(wrong)

@@ -3,7 +3,7 @@ ghost use Rattle.std.specs.Prelude.{◌≡◌, ◌+◌, ◌<◌, ◌≤◌, leng
 ghost use Rattle.layouts.specs.Checks.{sound};
 ghost use Rattle.bodies.specs.User.{is_letter, zero_at, first_wrong, cut_of, three_of, held_in, user_of};
 ghost use Rattle.std.specs.Option.{option_map};
-ghost use Rattle.std.specs.Result.{result_map_both as okMapped};
+ghost use Rattle.std.specs.Result.{result_map_both};
 
 use crate::fault::UserFault;
 
@@ -71,7 +71,7 @@ fn split(body: &[u8]) -> Option<UserParts<'_>>
 
 // The parts of a sound user-defined body.
 pub fn read_user(body: &[u8]) -> Result<UserParts<'_>, UserFault>
-    ensures { okMapped held_in (λ e. e) result ≡ user_of body.now }
+    ensures { result_map_both held_in (λ e. e) result ≡ user_of body.now }
 {
     let Some(parts) = split(body) else {
         return Err(UserFault::NoZero(body.len()));

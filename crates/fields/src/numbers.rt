@@ -1,6 +1,6 @@
 // Numbers in a body, the least significant byte first.
 ghost use Rattle.std.specs.Prelude.{◌≡◌, ◌+◌, ◌≤◌, length};
-ghost use Rattle.layouts.specs.Numbers.{number as number_in, signed as signedIn};
+ghost use Rattle.layouts.specs.Numbers.{number as number_in, signed as signed_in};
 
 pub(crate) fn byte(body: &[u8], at: usize) -> u8
     requires { at + 1 ≤ length body.now }
@@ -36,7 +36,7 @@ pub(crate) fn quad(body: &[u8], at: usize) -> u64
 
 pub(crate) fn signed(body: &[u8], at: usize) -> i16
     requires { at + 2 ≤ length body.now }
-    ensures { result ≡ signedIn body.now at }
+    ensures { result ≡ signed_in body.now at }
 {
     let s = &body[at..at + 2];
     i16::from_le_bytes([s[0], s[1]])

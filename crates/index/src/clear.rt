@@ -31,8 +31,7 @@ impl<S: Store + Drop, K: RecordKind + Drop> Index<S, K> {
                 return Cleared::Crossed(at);
             }
             at += 1;
-            let rest = (boundary - at) as usize;
-            at += self.vacant(at).min(rest) as u32;
+            at += self.vacant(at, boundary - at);
         }
         Cleared::Yes
     }

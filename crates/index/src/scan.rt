@@ -40,12 +40,16 @@ impl<S: Store + Drop, K: RecordKind + Drop> Index<S, K> {
         }
     }
 
-    // How many cells from a place on no record begins at, as far as the store has bytes at hand.
-    pub(crate) fn vacant(&self, at: u32) -> usize
+    // How many cells from a place on no record begins at, so many at the most, as far as the store has bytes at hand.
+    // No byte is looked at that is further ahead.
+    pub(crate) fn vacant(&self, at: u32, most: u32) -> u32
+        ensures few { result ≤ most }
         ensures none { (k : ℕ) → k < result → stands_at S.Store K.RecordKind self.now (at + k) ≡ None }
         ensures within { at ≤ length (cells_of S.Store self.now) → at + result ≤ length (cells_of S.Store self.now) }
     {
-        self.kind.vacant(self.store.run(at))
+        let run = self.store.run(at);
+        let near = run.len().min(most as usize + 1);
+        self.kind.vacant(&run[0..near]).min(most as usize) as u32
     }
 
     // Skips cells at which no record begins, so many at the most: how many.
@@ -53,7 +57,7 @@ impl<S: Store + Drop, K: RecordKind + Drop> Index<S, K> {
         requires { self.old.place ≤ length (cells_of S.Store self.old) }
         ensures { Pass S.Store K.RecordKind most self.old result self.new }
     {
-        let n = self.vacant(self.place).min(most as usize) as u32;
+        let n = self.vacant(self.place, most);
         self.place += n;
         self.skipped += n;
         n

@@ -1,7 +1,7 @@
 // The settings that govern a row's tuple.
 ghost use Rattle.std.specs.Prelude.{◌≡◌, ◌+◌, ◌<◌, ◌≤◌, length, take, if◌then◌else◌, None, slice_index_or};
 ghost use Rattle.indexfile.specs.Written.{no_row};
-ghost use Rattle.listing.specs.Settling.{body, counter_in, is_settings, settled as settled-by, settling};
+ghost use Rattle.listing.specs.Settling.{body, counter_in, is_settings, settled as settled_by, settling};
 ghost use Rattle.index.specs.Indexes.{cells_of, meaning_of, progress};
 
 use crate::Index;
@@ -66,7 +66,7 @@ impl<S: Store + Drop, K: RecordKind + Drop> Index<S, K> {
     // Whether the tuple of a row is settled with a counter, if it is settled.
     pub(crate) fn settled(&self, table: &[Row], row: u32) -> Option<Counter>
         requires { row < length table.now }
-        ensures { result ≡ settled-by (meaning_of K.RecordKind self.now) (cells_of S.Store self.now) (take row table.now) (slice_index_or table.now row no_row) }
+        ensures { result ≡ settled_by (meaning_of K.RecordKind self.now) (cells_of S.Store self.now) (take row table.now) (slice_index_or table.now row no_row) }
     {
         let y = table[row as usize];
         if !needs_settings(y.tag) {

@@ -1,7 +1,7 @@
 // The fixed bodies: types whose members never vary.
 ghost use Rattle.std.specs.Prelude.{◌≡◌, ◌≤◌, length, IfSome, IfOk};
 ghost use Rattle.std.specs.Option.{option_map};
-ghost use Rattle.std.specs.Result.{result_map_both as okMapped};
+ghost use Rattle.std.specs.Result.{result_map_both};
 ghost use Rattle.layouts.specs.Checks.{sound};
 ghost use Rattle.layouts.specs.Letters.{total as total_of};
 ghost use Rattle.layouts.specs.Catalogue.{laid, layout_of, fixed_body, Sums};
@@ -55,7 +55,7 @@ pub fn layout_of(data_type: u32) -> Option<Layout>
 }
 
 pub(crate) fn fixed_layout(data_type: u32, body: &[u8]) -> Result<Layout, LayoutFault>
-    ensures value { okMapped laid (λ e. e) result ≡ fixed_body data_type body.now }
+    ensures value { result_map_both laid (λ e. e) result ≡ fixed_body data_type body.now }
     ensures whole { IfOk result (λ l. (length body.now ≡ total_of l.letters.now) × (length l.letters.now ≤ 100)) }
 {
     let layout = layout_of(data_type).ok_or(LayoutFault::NoLayout)?;

@@ -4,7 +4,7 @@ ghost use Rattle.layouts.specs.Checks.{sound};
 ghost use Rattle.layouts.specs.Examples.{Examples};
 ghost use Rattle.layouts.specs.Letters.{total};
 ghost use Rattle.layouts.specs.Members.{settings_letters};
-ghost use Rattle.layouts.specs.Settings.{settings_length, altimeter_for, head_agrees, hid_type, counter_of, version as versionOf, version_for, settings_body, settings_of};
+ghost use Rattle.layouts.specs.Settings.{settings_length, altimeter_for, head_agrees, hid_type, counter_of, version as version_in, version_for, settings_body, settings_of};
 
 use crate::fault::LayoutFault;
 use crate::numbers::{double, word};
@@ -48,7 +48,7 @@ pub fn settings_length(version: u8, altimeter: bool) -> Option<usize>
 // In versions 3 to 5 the length tells an altimeter's settings.
 fn is_altimeter(body: &[u8]) -> bool
     requires { 20 ≤ length body.now }
-    ensures { result ≡ altimeter_for (length body.now) (versionOf body.now) }
+    ensures { result ≡ altimeter_for (length body.now) (version_in body.now) }
 {
     match body[13] {
         3..=4 => body.len() == 204,
@@ -60,7 +60,7 @@ fn is_altimeter(body: &[u8]) -> bool
 // In versions 3 to 5 HidType is 0x1007 exactly for an altimeter.
 fn head_agrees(body: &[u8]) -> bool
     requires { 202 ≤ length body.now }
-    ensures { result ≡ head_agrees (length body.now) (versionOf body.now) (hid_type body.now) }
+    ensures { result ≡ head_agrees (length body.now) (version_in body.now) (hid_type body.now) }
 {
     match body[13] {
         3..=5 => (double(body, body.len() - 94) == 0x1007) == is_altimeter(body),
@@ -82,7 +82,7 @@ fn counter_of(body: &[u8]) -> Counter
 
 // The Version of a body that is as long as this Version says.
 fn version_of(body: &[u8]) -> Result<u8, LayoutFault>
-    ensures value { result ≡ version_for (length body.now) (versionOf body.now) }
+    ensures value { result ≡ version_for (length body.now) (version_in body.now) }
     ensures long { OnOk result (202 ≤ length body.now) }
 {
     if body.len() < 20 {

@@ -1,7 +1,7 @@
 -- The settings that govern a row's tuple, and the judgement on its body.
 use Rattle.std.specs.Prelude.{ℕ, ◌-◌, Bool, cond, ◌&&◌, List, [], ◌∷◌, length, take, drop, is_some, Some, None, Ok, Err, filter, Option, Result, ◌==◌, nat_le, nat_lt}
 use Rattle.std.specs.Option.{ok_or, option_map}
-use Rattle.std.specs.Result.{result_ok, result_map_both as map-answer}
+use Rattle.std.specs.Result.{result_ok, result_map_both}
 use Rattle.recording.specs.declared.Cell.{Cell}
 use Rattle.records.specs.Records.{Meaning}
 use Rattle.layouts.specs.declared.settings.Counter.{Counter}
@@ -71,7 +71,7 @@ module _ (m : Meaning) (cs : List Cell) where
 
   -- a call: what a fetch does; where it is not refused, the tuple is sound or there is a finding
   abbrev pub inspecting : ℕ → List ℕ → Progress → Result Inspected FetchRefusal × List ℕ
-  inspecting i buffer s = (map-answer (λ n. in_row i (judged (take i s.table) (row_of s i))) (λ e. e) (fetching m cs i buffer s).0, (fetching m cs i buffer s).1)
+  inspecting i buffer s = (result_map_both (λ n. in_row i (judged (take i s.table) (row_of s i))) (λ e. e) (fetching m cs i buffer s).0, (fetching m cs i buffer s).1)
 
 -- an inspection's answer but for the row's number
 abbrev pub found : Inspected → Result (Unit {0}) TupleFault
@@ -79,4 +79,4 @@ found Sound = Ok tt
 found (Found f) = Err f.fault
 
 abbrev pub unnumbered : Result Inspected FetchRefusal → Result (Result (Unit {0}) TupleFault) FetchRefusal
-unnumbered r = map-answer found (λ e. e) r
+unnumbered r = result_map_both found (λ e. e) r

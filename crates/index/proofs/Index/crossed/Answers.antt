@@ -10,7 +10,7 @@ pub loop-at-preserved : goal.loop-at-preserved
 loop-at-preserved g c =
     let m = g.K.RecordKind.stands c.args.self.now.kind in
     let cs = g.S.Store.cells c.args.self.now.store in
-    sym (past m cs c.args.boundary c.loop-at.at (sym c.if-ends_after.ensures) ∙ past_none m cs c.args.boundary c.min.result (c.loop-at.at + 1) (λ i h. c.vacant.ensures.none i (omega arith)))
+    sym (past m cs c.args.boundary c.loop-at.at (sym c.if-ends_after.ensures) ∙ past_none m cs c.args.boundary c.vacant-at.result (c.loop-at.at + 1) c.vacant-at.ensures.none)
     ∙ c.loop-at.invariant
 
 pub returns-then-ends_after : goal.returns-then-ends_after
