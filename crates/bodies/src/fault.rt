@@ -6,7 +6,7 @@ ghost use Rattle.bodies.specs.declared.fault.Wrong.TheVariants.{Body as in_body}
 
 use layouts::fault::LayoutFault;
 use packets::fault::PacketFault;
-use refusals::Refusal;
+use refusals::{Notice, Refusal};
 
 // What may be wrong with a user-defined body.
 #[derive(Clone, Copy, Debug, PartialEq, Eq)]
@@ -26,6 +26,7 @@ pub enum BodyFault {
 }
 
 #[derive(Clone, Copy, Debug, PartialEq, Eq)]
+// No Option: both cases are errors.
 pub enum Wrong {
     Body(BodyFault),
     // No settings tell whether the tuple has a counter.
@@ -42,13 +43,9 @@ pub struct TupleFault {
 impl Refusal for UserFault {
     ghost told = { user_fault };
 
-    fn number(&self) -> u8 {
-        10
-    }
-
-    fn place(&self) -> usize {
+    fn notice(&self) -> Notice {
         match *self {
-            UserFault::NoZero(at) | UserFault::Letter(at) => at,
+            UserFault::NoZero(at) | UserFault::Letter(at) => Notice::at(10, at),
         }
     }
 }
@@ -56,19 +53,11 @@ impl Refusal for UserFault {
 impl Refusal for BodyFault {
     ghost told = { body_fault };
 
-    fn number(&self) -> u8 {
+    fn notice(&self) -> Notice {
         match self {
-            BodyFault::Members(fault) => fault.number(),
-            BodyFault::Packets(fault) => fault.number(),
-            BodyFault::User(fault) => fault.number(),
-        }
-    }
-
-    fn place(&self) -> usize {
-        match self {
-            BodyFault::Members(fault) => fault.place(),
-            BodyFault::Packets(fault) => fault.place(),
-            BodyFault::User(fault) => fault.place(),
+            BodyFault::Members(fault) => fault.notice(),
+            BodyFault::Packets(fault) => fault.notice(),
+            BodyFault::User(fault) => fault.notice(),
         }
     }
 }
@@ -76,21 +65,15 @@ impl Refusal for BodyFault {
 impl Refusal for TupleFault {
     ghost told = { tuple_fault };
 
-    fn number(&self) -> u8 {
+    fn notice(&self) -> Notice {
         match self.wrong {
-            Wrong::Body(fault) => fault.number(),
-            Wrong::NoSettings => 22,
-        }
-    }
-
-    fn place(&self) -> usize {
-        match self.wrong {
-            Wrong::Body(fault) => fault.place(),
-            Wrong::NoSettings => 0,
+            Wrong::Body(fault) => fault.notice(),
+            Wrong::NoSettings => Notice::nowhere(22),
         }
     }
 }
 
+// A rule of the project keeps these by hand: contracts speak of the error that `?` makes.
 impl From<LayoutFault> for BodyFault {
     ghost from_gives = { λ x y. y ≡ in_members x };
 
@@ -135,8 +118,5 @@ impl From<(u32, Wrong)> for TupleFault {
 pub fn beside<K: Drop, T, E>(k: K, res: Result<T, E>) -> Result<T, (K, E)>
     ensures { result ≡ beside k res }
 {
-    match res {
-        Ok(x) => Ok(x),
-        Err(e) => Err((k, e)),
-    }
+    res.map_err(|e| (k, e))
 }

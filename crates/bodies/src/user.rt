@@ -15,7 +15,7 @@ pub struct UserParts<'a> {
     pub data: &'a [u8],
 }
 
-// The ten letters of a Format.
+// The ten letters of a Format; a rule of the project keeps this a match on ten literals.
 fn is_letter(c: char) -> bool
     ensures { result ≡ is_letter c }
 {
@@ -25,7 +25,7 @@ fn is_letter(c: char) -> bool
     }
 }
 
-// Where the first byte stands that is no letter.
+// Where the first byte stands that is no letter; a rule of the project keeps this a loop with an index.
 fn first_wrong(format: &[u8]) -> Option<usize>
     ensures value { result ≡ first_wrong format.now }
     ensures within { IfSome result (λ i. i < length format.now) }
@@ -43,12 +43,7 @@ fn zero_at(s: &[u8]) -> Option<usize>
     ensures value { result ≡ zero_at s.now }
     ensures within { IfSome result (λ i. i < length s.now) }
 {
-    for (i, b) in s.iter().enumerate() {
-        if *b == 0 {
-            return Some(i);
-        }
-    }
-    None
+    s.iter().position(|b| *b == 0)
 }
 
 // What stands before the first zero byte, and what stands past it.
@@ -73,9 +68,7 @@ fn split(body: &[u8]) -> Option<UserParts<'_>>
 pub fn read_user(body: &[u8]) -> Result<UserParts<'_>, UserFault>
     ensures { result_map_both held_in (λ e. e) result ≡ user_of body.now }
 {
-    let Some(parts) = split(body) else {
-        return Err(UserFault::NoZero(body.len()));
-    };
+    let parts = split(body).ok_or(UserFault::NoZero(body.len()))?;
     if let Some(i) = first_wrong(parts.format) {
         return Err(UserFault::Letter(parts.name.len() + 1 + i));
     }
@@ -83,9 +76,9 @@ pub fn read_user(body: &[u8]) -> Result<UserParts<'_>, UserFault>
 }
 
 // Whether a user-defined body is sound.
+// A function of its own, since callers judge without the parts.
 pub fn judge_user(body: &[u8]) -> Result<(), UserFault>
     ensures { result ≡ sound (user_of body.now) }
 {
-    read_user(body)?;
-    Ok(())
+    read_user(body).map(|_| ())
 }

@@ -16,8 +16,6 @@ use Rattle.records.specs.Tuples.{tuple}
 use Rattle.records.specs.Sentences.{sentence}
 use Rattle.indexfile.specs.declared.row.Row.{Row}
 use Rattle.listing.specs.declared.answer.Call.TheVariants.{Scan}
-use Rattle.listing.specs.declared.answer.Cleared.{Cleared}
-use Rattle.listing.specs.declared.answer.Cleared.TheVariants.{Yes, Crossed}
 use Rattle.listing.specs.Listing.{listing}
 use Rattle.listing.specs.Progress.{Progress, at}
 use Rattle.listing.specs.Clearing.{clearing}
@@ -30,7 +28,7 @@ pub record Listing : Type 0 where
   pub cells : List Cell
   pub rows : List Row
   pub skipped : ℕ
-  pub boundaries : List (ℕ × Cleared)
+  pub boundaries : List (ℕ × Option ℕ)
 
 -- a row that was not written yet
 abbrev pub blank : Row
@@ -83,16 +81,16 @@ heading digit = 36 ∷ 71 ∷ 80 ∷ 72 ∷ 68 ∷ 84 ∷ 42 ∷ 52 ∷ digit �
 abbrev pub heading_row : Row
 heading_row = record { place = 0; length = 11; tag = 4736084; source_type = 0; source_id = 0; time = 0 }
 
-abbrev pub tuples : List Cell → List Row → ℕ → List (ℕ × Cleared) → Example
+abbrev pub tuples : List Cell → List Row → ℕ → List (ℕ × Option ℕ) → Example
 tuples cs rows n bs = lists (record { meaning = meaning tuple; cells = cs; rows = rows; skipped = n; boundaries = bs })
 
-abbrev pub sentences : List Cell → List Row → ℕ → List (ℕ × Cleared) → Example
+abbrev pub sentences : List Cell → List Row → ℕ → List (ℕ × Option ℕ) → Example
 sentences cs rows n bs = lists (record { meaning = meaning sentence; cells = cs; rows = rows; skipped = n; boundaries = bs })
 
 abbrev pub examples : List Example
 examples =
     -- a whole tuple
-    tuples (bytes_only empty_tuple) (tuple_row 0 16 ∷ []) 0 ((0, Yes) ∷ (8, Crossed 0) ∷ (16, Yes) ∷ [])
+    tuples (bytes_only empty_tuple) (tuple_row 0 16 ∷ []) 0 ((0, None) ∷ (8, Some 0) ∷ (16, None) ∷ [])
     -- a tuple that is cut before its last byte
     ∷ tuples (bytes_only (take 15 empty_tuple)) [] 15 []
     -- a footer that disagrees with the header: nothing is jumped over
@@ -102,15 +100,15 @@ examples =
     -- a tuple with a lost cell
     ∷ tuples (slice_set (bytes_only empty_tuple) 5 Lost) [] 16 []
     -- a tuple inside another's body is not listed, and its beginning is not clear
-    ∷ tuples (bytes_only nested_tuple) (tuple_row 0 32 ∷ []) 0 ((14, Crossed 0) ∷ (20, Crossed 0) ∷ (32, Yes) ∷ [])
+    ∷ tuples (bytes_only nested_tuple) (tuple_row 0 32 ∷ []) 0 ((14, Some 0) ∷ (20, Some 0) ∷ (32, None) ∷ [])
     -- the outer one's first cell is lost: the inner one is listed, and its beginning is clear
-    ∷ tuples (slice_set (bytes_only nested_tuple) 0 Lost) (tuple_row 14 16 ∷ []) 16 ((14, Yes) ∷ (20, Crossed 14) ∷ [])
+    ∷ tuples (slice_set (bytes_only nested_tuple) 0 Lost) (tuple_row 14 16 ∷ []) 16 ((14, None) ∷ (20, Some 14) ∷ [])
     -- a sentence without a text
     ∷ sentences (bytes_only (heading 70)) (heading_row ∷ []) 0 []
     -- a digit in lower case
     ∷ sentences (bytes_only (heading 102)) [] 11 []
     -- no cells
-    ∷ tuples [] [] 0 ((0, Yes) ∷ [])
+    ∷ tuples [] [] 0 ((0, None) ∷ [])
     -- settings of version 5 in the altimeter's length: an altimeter's head, and another
     ∷ judges (settings 5 205 0x1007) None
     ∷ judges (settings 5 205 0x0971) (Some (notice 8 111))

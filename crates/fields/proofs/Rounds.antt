@@ -33,9 +33,9 @@ number_fits k (a_number n) new e = go (ltb n (256 ^ k)) refl e
     go true h q =
         let same : bytes_of k n ≡ new = cc in
         (ap length (sym same) ∙ length-bytes k n, ap a_number (ap little (sym same) ∙ little_bytes k n (ltb-true _ _ h)))
-    go false h q = let z : ◌≡◌ {A = ℕ} 0 1 = cc in absurd (omega arith)
-number_fits k (a_signed z) new e = let z : ◌≡◌ {A = ℕ} 0 1 = cc in absurd (omega arith)
-number_fits k (a_run s) new e = let z : ◌≡◌ {A = ℕ} 0 1 = cc in absurd (omega arith)
+    go false h q = cc
+number_fits k (a_signed z) new e = cc
+number_fits k (a_run s) new e = cc
 
 signed_back : (z : ℤ) → narrow z ≡ true → (of_z w16 z < 256 ^ 2) × (to_z w16 (of_z w16 z) ≡ z)
 signed_back (pos n) h = let l : n ≤ 32767 = leb-true _ _ h in (omega arith, omega (arith, ints))
@@ -43,7 +43,7 @@ signed_back (negsuc n) h = let l : n ≤ 32767 = leb-true _ _ h in (omega arith,
 
 signed_fits : (v : Value) (new : List ℕ) → signed_bytes v ≡ Some new → Fit S v new
 unfolding Fit
-signed_fits (a_number n) new e = let z : ◌≡◌ {A = ℕ} 0 1 = cc in absurd (omega arith)
+signed_fits (a_number n) new e = cc
 signed_fits (a_signed z) new e = go (narrow z) refl e
   where
     go : (b : Bool) → narrow z ≡ b → cond b (Some (bytes_of 2 (of_z w16 z))) None ≡ Some new → (length new ≡ 2) × (a_signed (to_z w16 (little new)) ≡ a_signed z)
@@ -52,20 +52,20 @@ signed_fits (a_signed z) new e = go (narrow z) refl e
           ap length (sym same),
           ap a_signed (ap (λ n. to_z w16 n) (ap little (sym same) ∙ little_bytes 2 (of_z w16 z) (signed_back z h).0) ∙ (signed_back z h).1),
         )
-    go false h q = let z : ◌≡◌ {A = ℕ} 0 1 = cc in absurd (omega arith)
-signed_fits (a_run s) new e = let z : ◌≡◌ {A = ℕ} 0 1 = cc in absurd (omega arith)
+    go false h q = cc
+signed_fits (a_run s) new e = cc
 
 run_fits : (k : ℕ) (v : Value) (new : List ℕ) → run_bytes k v ≡ Some new → Fit (R k) v new
 unfolding Fit
-run_fits k (a_number n) new e = let z : ◌≡◌ {A = ℕ} 0 1 = cc in absurd (omega arith)
-run_fits k (a_signed z) new e = let z : ◌≡◌ {A = ℕ} 0 1 = cc in absurd (omega arith)
+run_fits k (a_number n) new e = cc
+run_fits k (a_signed z) new e = cc
 run_fits k (a_run s) new e = go (eqb (length s) k) refl e
   where
     go : (b : Bool) → eqb (length s) k ≡ b → cond b (Some s) None ≡ Some new → (length new ≡ k) × (a_run new ≡ a_run s)
     go true h q =
         let same : s ≡ new = cc in
         (ap length (sym same) ∙ eqb-true _ _ h, ap a_run (sym same))
-    go false h q = let z : ◌≡◌ {A = ℕ} 0 1 = cc in absurd (omega arith)
+    go false h q = cc
 
 fits : (l : Letter) (v : Value) (new : List ℕ) → bytes_for l v ≡ Some new → Fit l v new
 unfolding Fit
@@ -100,7 +100,7 @@ found ls n p e = go (ltb n (length ls)) refl e
     go true h q =
         let same : (total (take n ls), get_or ls n D) ≡ p = cc in
         record { among = ltb-true _ _ h; place = ap (λ x. x.0) (sym same); letter = ap (λ x. x.1) (sym same) }
-    go false h q = let z : ◌≡◌ {A = ℕ} 0 1 = cc in absurd (omega arith)
+    go false h q = cc
 
 module _ (bs : List ℕ) (p : ℕ × Letter) (v : Value) (new : List ℕ) (room : p.0 + size p.1 ≤ length bs) (e : bytes_for p.1 v ≡ Some new) where
   after : List ℕ
@@ -163,9 +163,9 @@ lettered : {T : Type 0} (r : Result (List Letter) LayoutFault) (f : List Letter 
 lettered (Ok ls) f p e = (ls, (refl, go (f ls) refl e))
   where
     go : (o : Option _) → f ls ≡ o → ok_or o NoField ≡ Ok p → f ls ≡ Some p
-    go None g q = let z : ◌≡◌ {A = ℕ} 0 1 = cc in absurd (omega arith)
+    go None g q = cc
     go (Some x) g q = cc
-lettered (Err x) f p e = let z : ◌≡◌ {A = ℕ} 0 1 = cc in absurd (omega arith)
+lettered (Err x) f p e = cc
 
 fixed_letters : (t : ℕ) (bs cs : List ℕ) → length cs ≡ length bs → t ≢ 15 → letters_of t cs ≡ letters_of t bs
 fixed_letters t bs cs e ne =
@@ -205,7 +205,7 @@ said bs ls e = go (settings_body bs) refl (sym (judged bs) ∙ e)
     go (Ok tt) f q =
         let same : settings_letters (version bs) (altimeter_for (length bs) (version bs)) ≡ ls = cc in
         subst (Judging (length bs)) same (judging (length bs) (version bs) (head_controller_version bs) (hid_type bs) f)
-    go (Err x) f q = let z : ◌≡◌ {A = ℕ} 0 1 = cc in absurd (omega arith)
+    go (Err x) f q = cc
 
 -- settings whose other members were set
 kept_settings : (bs : List ℕ) (p : ℕ × Letter) (v : Value) (new : List ℕ) (room : p.0 + size p.1 ≤ length bs) (e : bytes_for p.1 v ≡ Some new) (ls : List Letter) (n : ℕ) → field_of ls n ≡ Some p → length (set_at bs p.0 new) ≡ length bs → result_map_both letters_said (λ x. x) (settings_of bs) ≡ Ok ls → n ≢ 9 → n ≢ length ls - 33 → n ≢ length ls - 21 → result_map_both letters_said (λ x. x) (settings_of (set_at bs p.0 new)) ≡ result_map_both letters_said (λ x. x) (settings_of bs)
@@ -250,5 +250,5 @@ set_law t n v bs p (Err x) cs e room q = tt
 set_law t n v bs p (Ok x) cs e room q = go (bytes_for p.1 v) refl q
   where
     go : (o : Option (List ℕ)) → bytes_for p.1 v ≡ o → (Ok x, cs) ≡ put_of bs p.0 o → FieldSet t n v bs cs
-    go None f w = let c : Ok x ≡ Err NoField = ap (λ y. y.0) w in let z : ◌≡◌ {A = ℕ} 0 1 = cc in absurd (omega arith)
+    go None f w = let c : Ok x ≡ Err NoField = ap (λ y. y.0) w in cc
     go (Some new) f w = subst (FieldSet t n v bs) (ap (λ y. y.1) (sym w)) (set_at_lem t n v bs p new e room f)

@@ -1,12 +1,8 @@
 -- What a write to a part leaves.
-use Rattle.std.proofs.Common.{◌≡◌, ℕ, zero, suc, ◌+◌, ◌/◌, ◌^◌, ◌<◌, ◌≤◌, List, length, refl, ap, append_assoc, pow-suc, arith, drop-drop, rules}
-use borrow.Rule.Slice.PartMut.{put_mid}
+use Rattle.std.proofs.Common.{◌≡◌, ℕ, zero, suc, ◌+◌, ◌/◌, ◌^◌, ◌<◌, ◌≤◌, List, length, refl, ap, pow-suc, arith, rules}
 use Rattle.std.proofs.lemmas.List.{places, same_lists}
 use Rattle.layouts.specs.Numbers.{little, part}
 use Rattle.fields.specs.Set.{bytes_of, set_at}
-
-pub set_is : (at k : ℕ) (xs ys new : List ℕ) → ys ≡ new → k ≡ length new → put_mid at k xs ys ≡ set_at xs at new
-set_is at k xs ys new e f = simp (e, f, drop-drop, append_assoc)
 
 pub length-bytes : (k n : ℕ) → length (bytes_of k n) ≡ k
 length-bytes zero n = refl

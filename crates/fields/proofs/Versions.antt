@@ -16,23 +16,26 @@ pub record Judging (n : ℕ) (ls : List Letter) : Type 0 where
   pub hid_at : field_of ls (length ls - 33) ≡ Some (n - 94, L)
   pub controller_at : field_of ls (length ls - 21) ≡ Some (n - 30, B)
 
+at : {n : ℕ} {ls : List Letter} → field_of ls 9 ≡ Some (13, B) → field_of ls (length ls - 33) ≡ Some (n - 94, L) → field_of ls (length ls - 21) ≡ Some (n - 30, B) → Judging n ls
+at v h c = record { version_at = v; hid_at = h; controller_at = c }
+
 At : ℕ → ℕ → Type 0
 At v n = Judging n (settings_letters v (altimeter_for n v))
 
 each : (v : ℕ) → 1 ≤ v → v ≤ 11 → At v (length_of v false) × At v (length_of v true)
 unfolding At
 each zero p q = absurd (omega arith)
-each (suc zero) p q = (record { version_at = refl; hid_at = refl; controller_at = refl }, record { version_at = refl; hid_at = refl; controller_at = refl })
-each (suc (suc zero)) p q = (record { version_at = refl; hid_at = refl; controller_at = refl }, record { version_at = refl; hid_at = refl; controller_at = refl })
-each (suc (suc (suc zero))) p q = (record { version_at = refl; hid_at = refl; controller_at = refl }, record { version_at = refl; hid_at = refl; controller_at = refl })
-each (suc (suc (suc (suc zero)))) p q = (record { version_at = refl; hid_at = refl; controller_at = refl }, record { version_at = refl; hid_at = refl; controller_at = refl })
-each (suc (suc (suc (suc (suc zero))))) p q = (record { version_at = refl; hid_at = refl; controller_at = refl }, record { version_at = refl; hid_at = refl; controller_at = refl })
-each (suc (suc (suc (suc (suc (suc zero)))))) p q = (record { version_at = refl; hid_at = refl; controller_at = refl }, record { version_at = refl; hid_at = refl; controller_at = refl })
-each (suc (suc (suc (suc (suc (suc (suc zero))))))) p q = (record { version_at = refl; hid_at = refl; controller_at = refl }, record { version_at = refl; hid_at = refl; controller_at = refl })
-each (suc (suc (suc (suc (suc (suc (suc (suc zero)))))))) p q = (record { version_at = refl; hid_at = refl; controller_at = refl }, record { version_at = refl; hid_at = refl; controller_at = refl })
-each (suc (suc (suc (suc (suc (suc (suc (suc (suc zero))))))))) p q = (record { version_at = refl; hid_at = refl; controller_at = refl }, record { version_at = refl; hid_at = refl; controller_at = refl })
-each (suc (suc (suc (suc (suc (suc (suc (suc (suc (suc zero)))))))))) p q = (record { version_at = refl; hid_at = refl; controller_at = refl }, record { version_at = refl; hid_at = refl; controller_at = refl })
-each (suc (suc (suc (suc (suc (suc (suc (suc (suc (suc (suc zero))))))))))) p q = (record { version_at = refl; hid_at = refl; controller_at = refl }, record { version_at = refl; hid_at = refl; controller_at = refl })
+each (suc zero) p q = (at refl refl refl, at refl refl refl)
+each (suc (suc zero)) p q = (at refl refl refl, at refl refl refl)
+each (suc (suc (suc zero))) p q = (at refl refl refl, at refl refl refl)
+each (suc (suc (suc (suc zero)))) p q = (at refl refl refl, at refl refl refl)
+each (suc (suc (suc (suc (suc zero))))) p q = (at refl refl refl, at refl refl refl)
+each (suc (suc (suc (suc (suc (suc zero)))))) p q = (at refl refl refl, at refl refl refl)
+each (suc (suc (suc (suc (suc (suc (suc zero))))))) p q = (at refl refl refl, at refl refl refl)
+each (suc (suc (suc (suc (suc (suc (suc (suc zero)))))))) p q = (at refl refl refl, at refl refl refl)
+each (suc (suc (suc (suc (suc (suc (suc (suc (suc zero))))))))) p q = (at refl refl refl, at refl refl refl)
+each (suc (suc (suc (suc (suc (suc (suc (suc (suc (suc zero)))))))))) p q = (at refl refl refl, at refl refl refl)
+each (suc (suc (suc (suc (suc (suc (suc (suc (suc (suc (suc zero))))))))))) p q = (at refl refl refl, at refl refl refl)
 each (suc (suc (suc (suc (suc (suc (suc (suc (suc (suc (suc (suc n)))))))))))) p q = absurd (omega arith)
 
 pub judging : (n v controller hid : ℕ) → settings_checks n v controller hid ≡ Ok tt → Judging n (settings_letters v (altimeter_for n v))
@@ -44,9 +47,9 @@ judging n v controller hid e =
     rest w = and_then (check (eqb controller w) (fault.HeadControllerVersion (n - 30))) (λ _. check (head_agrees n v hid) (fault.HidType (n - 94)))
 
     go : (a b c : Bool) → between 1 11 v ≡ b → eqb n (length_of v false) || eqb n (length_of v true) ≡ c → and_then (and_then (check a fault.Length) (λ _. and_then (check b fault.Version) (λ _. and_then (check c fault.Length) (λ _. Ok v)))) rest ≡ Ok tt → At v n
-    go false b c f g q = let z : ◌≡◌ {A = ℕ} 0 1 = cc in absurd (omega arith)
-    go true false c f g q = let z : ◌≡◌ {A = ℕ} 0 1 = cc in absurd (omega arith)
-    go true true false f g q = let z : ◌≡◌ {A = ℕ} 0 1 = cc in absurd (omega arith)
+    go false b c f g q = cc
+    go true false c f g q = cc
+    go true true false f g q = cc
     go true true true f g q =
         let low : 1 ≤ v = leb-true 1 v (and_parts (leb 1 v) (leb v 11) f).0 in
         let high : v ≤ 11 = leb-true v 11 (and_parts (leb 1 v) (leb v 11) f).1 in

@@ -1,7 +1,6 @@
 // Fields of fixed bodies and of settings, read and set.
-#![tactic(auto)]
+#![tactic(auto, using(layouts::proofs::Numbers::number_read))]
 
 pub mod fault;
-mod numbers;
 pub mod read;
 pub mod set;

@@ -5,7 +5,7 @@ ghost use Rattle.fields.specs.Fields.{means, value_at, place_of, value_of};
 ghost use Rattle.layouts.specs.Letters.{size};
 
 use crate::fault::FieldFault;
-use crate::numbers::{byte, double, quad, signed, word};
+use byteorder::{ByteOrder, LittleEndian};
 use layouts::letters::Letter;
 use layouts::locate::locate;
 
@@ -21,13 +21,14 @@ fn field_at(body: &[u8], at: usize, letter: Letter) -> Field<'_>
     requires { at + size letter ≤ length body.now }
     ensures { means result ≡ value_at body.now (at, letter) }
 {
+    let from = &body[at..];
     match letter {
-        Letter::D => Field::Number(quad(body, at)),
-        Letter::F | Letter::L => Field::Number(u64::from(double(body, at))),
-        Letter::W => Field::Number(u64::from(word(body, at))),
-        Letter::S => Field::Signed(i64::from(signed(body, at))),
-        Letter::B => Field::Number(u64::from(byte(body, at))),
-        Letter::R(n) => Field::Run(&body[at..at + usize::from(n)]),
+        Letter::D => Field::Number(LittleEndian::read_u64(from)),
+        Letter::F | Letter::L => Field::Number(u64::from(LittleEndian::read_u32(from))),
+        Letter::W => Field::Number(u64::from(LittleEndian::read_u16(from))),
+        Letter::S => Field::Signed(i64::from(LittleEndian::read_i16(from))),
+        Letter::B => Field::Number(u64::from(from[0])),
+        Letter::R(n) => Field::Run(&from[..usize::from(n)]),
     }
 }
 

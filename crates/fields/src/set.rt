@@ -1,10 +1,8 @@
 // Fields that are set.
 ghost use Rattle.std.specs.Prelude.{◌≡◌, ◌+◌, ◌≤◌, length, OnOk};
-ghost use Rattle.std.proofs.Common.{of_z};
-ghost use Rattle.std.specs.Int.{w16};
-ghost use Rattle.fields.specs.Fields.{means, a_number};
+ghost use Rattle.fields.specs.Fields.{means};
 ghost use Rattle.layouts.specs.Letters.{size};
-ghost use Rattle.fields.specs.Set.{bytes_of, bytes_for, set_at, put_of, set_of, FieldSet};
+ghost use Rattle.fields.specs.Set.{bytes_for, set_at, put_of, set_of, FieldSet};
 
 use crate::fault::FieldFault;
 use crate::read::{Field, field_place};
@@ -18,74 +16,20 @@ fn put_run(s: &mut [u8], at: usize, run: &[u8])
     s[at..at + run.len()].copy_from_slice(run);
 }
 
-fn put_byte(s: &mut [u8], at: usize, n: u8)
-    requires { at + 1 ≤ length s.old }
-    ensures { s.new ≡ set_at s.old at (bytes_of 1 n) }
-{
-    put_run(s, at, &[n]);
-}
-
-fn put_word(s: &mut [u8], at: usize, n: u16)
-    requires { at + 2 ≤ length s.old }
-    ensures { s.new ≡ set_at s.old at (bytes_of 2 n) }
-{
-    put_run(s, at, &n.to_le_bytes());
-}
-
-fn put_double(s: &mut [u8], at: usize, n: u32)
-    requires { at + 4 ≤ length s.old }
-    ensures { s.new ≡ set_at s.old at (bytes_of 4 n) }
-{
-    put_run(s, at, &n.to_le_bytes());
-}
-
-fn put_quad(s: &mut [u8], at: usize, n: u64)
-    requires { at + 8 ≤ length s.old }
-    ensures { s.new ≡ set_at s.old at (bytes_of 8 n) }
-{
-    put_run(s, at, &n.to_le_bytes());
-}
-
-fn put_signed(s: &mut [u8], at: usize, n: i16)
-    requires { at + 2 ≤ length s.old }
-    ensures { s.new ≡ set_at s.old at (bytes_of 2 (of_z w16 n)) }
-{
-    put_run(s, at, &n.to_le_bytes());
-}
-
-// a value written as its field's letter asks, where it can be
+// A value written as its field's letter asks, where it can be.
 fn put_value(s: &mut [u8], at: usize, letter: Letter, value: Field<'_>) -> Result<(), FieldFault>
     requires { at + size letter ≤ length s.old }
     ensures { (result, s.new) ≡ put_of s.old at (bytes_for letter (means value.entry)) }
 {
-    match value {
-        Field::Number(n) => put_number(s, at, letter, n),
-        Field::Signed(z) => match letter {
-            Letter::S if z >= -32_768 && z <= 32_767 => {
-                put_signed(s, at, z as i16);
-                Ok(())
-            }
-            _ => Err(FieldFault::NoField),
-        },
-        Field::Run(run) => match letter {
-            Letter::R(n) if run.len() == usize::from(n) => {
-                put_run(s, at, run);
-                Ok(())
-            }
-            _ => Err(FieldFault::NoField),
-        },
-    }
-}
-
-fn put_number(s: &mut [u8], at: usize, letter: Letter, n: u64) -> Result<(), FieldFault>
-    requires { at + size letter ≤ length s.old }
-    ensures { (result, s.new) ≡ put_of s.old at (bytes_for letter (a_number n)) }
-{
-    match letter {
-        Letter::D => put_quad(s, at, n),
-        Letter::F | Letter::L if n < 1 << 32 => put_double(s, at, n as u32),
-        Letter::W if n < 1 << 16 => put_word(s, at, n as u16),
-        Letter::B if n < 1 << 8 => put_byte(s, at, n as u8),
+    match (letter, value) {
+        (Letter::D, Field::Number(n)) => put_run(s, at, &n.to_le_bytes()),
+        (Letter::F | Letter::L, Field::Number(n)) => {
+            put_run(s, at, &u32::try_from(n)?.to_le_bytes());
+        }
+        (Letter::W, Field::Number(n)) => put_run(s, at, &u16::try_from(n)?.to_le_bytes()),
+        (Letter::S, Field::Signed(z)) => put_run(s, at, &i16::try_from(z)?.to_le_bytes()),
+        (Letter::B, Field::Number(n)) => put_run(s, at, &[u8::try_from(n)?]),
+        (Letter::R(n), Field::Run(run)) if run.len() == usize::from(n) => put_run(s, at, run),
         _ => return Err(FieldFault::NoField),
     }
     Ok(())

@@ -1,6 +1,5 @@
 -- Places at which no record begins, passed over many at a time.
-use Rattle.std.proofs.Common.{◌≡◌, ℕ, zero, suc, ◌+◌, ◌-◌, ◌<◌, ◌≤◌, min, cond, List, length, take, None, Ok, sym, ap, ◌∙◌, arith, length-take, get_or-take}
-use Rattle.recording.specs.declared.Cell.TheVariants.{Byte}
+use Rattle.std.proofs.Common.{◌≡◌, ℕ, zero, suc, ◌+◌, ◌-◌, ◌<◌, ◌≤◌, cond, List, length, take, None, ap, ◌∙◌, arith, length-take, get_or-take}
 use Rattle.recording.specs.declared.Cell.{Cell}
 use Rattle.recording.specs.Cells.{is_byte, Stand}
 use Rattle.recording.proofs.Lists.{byte_within}
@@ -11,6 +10,7 @@ use Rattle.listing.specs.Progress.{Progress, at}
 use Rattle.listing.specs.Scanning.{turned, outcome, scanned}
 use Rattle.listing.proofs.Clears.{past}
 use Rattle.listing.proofs.Scans.{turn_more}
+use Rattle.std.proofs.lemmas.Grind.{common_steps}
 
 -- bytes that stand in a recording lie inside it
 pub stand_within : (cs : List Cell) (p : ℕ) (bs : List ℕ) → Stand cs p bs → (n : ℕ) → n ≤ length bs → p ≤ length cs → p + n ≤ length cs
@@ -19,9 +19,7 @@ stand_within cs p bs stand (suc k) h l = let here : p + k < length cs = byte_wit
 
 -- and so do the first n of them
 pub stand_less : (cs : List Cell) (p : ℕ) (bs : List ℕ) (n : ℕ) → Stand cs p bs → Stand cs p (take n bs)
-stand_less cs p bs n stand k h =
-    let lt : k < min n (length bs) = omega (arith, length-take n bs) in
-    stand k (omega arith) ∙ ap (λ b. Ok (Byte b)) (sym (get_or-take n bs k 0 (omega arith)))
+stand_less cs p bs n stand k h = grind (arith, common_steps, length-take, get_or-take)
 
 module _ (m : Meaning) (cs : List Cell) where
   first_none : (k p : ℕ) → ((i : ℕ) → i < suc k → m cs (p + i) ≡ None) → m cs p ≡ None

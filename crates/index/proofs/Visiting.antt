@@ -13,6 +13,7 @@ use Rattle.listing.specs.Visits.{after, called, visited, answered, buffered, unu
 use Rattle.listing.specs.Promise.{Used}
 use Rattle.index.specs.Calls.{Made, Ran, Opened, Serves}
 use Rattle.listing.proofs.Walks.{used}
+use Rattle.std.proofs.lemmas.Grind.{common_steps}
 
 -- x has come to y with i of the visits made: what is noted so far is followed by what the others will answer
 pub record Sofar {S K : Type 0} (s : Stores S) (k : Kinds K) (vs : List Visit) (x : Index S K s k) (table : List Row) (buffer : List ℕ) (i : ℕ) (noted : List Visit) (y : Index S K s k) (left : List Row) (filled : List ℕ) : Type 0 where
@@ -52,10 +53,10 @@ module _ {S K : Type 0} {s : Stores S} {k : Kinds K} {vs : List Visit} {x : Inde
       call = ap (λ (u : List Visit). (get_or u 0 d).call) both
 
       answer : (r, bytes) ≡ called m cs (get_or vs i d).call filled (progress y left)
-      answer = one.answer ∙ (λ j. called (k.stands (sofar.kind j)) (s.cells (sofar.store j)) (call j) filled (progress y left))
+      answer = grind (arith, common_steps, call)
 
       moves : progress z last ≡ after m cs (get_or vs i d).call (progress y left)
-      moves = one.moved ∙ (λ j. after (k.stands (sofar.kind j)) (s.cells (sofar.store j)) (call j) (progress y left))
+      moves = grind (arith, common_steps, call)
 
       pub one_more : Sofar s k vs x table buffer (i + 1) (set noted i made) z last bytes
       one_more = record {

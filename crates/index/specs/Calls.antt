@@ -18,22 +18,22 @@ use Rattle.index.specs.Indexes.{Stores, Kinds, cells_of, meaning_of, stands_at, 
 pub record Turn {S K : Type 0} (s : Stores S) (k : Kinds K) (x : Index S K s k) (table : List Row) (r : Bool) (y : Index S K s k) (after : List Row) : Type 0 where
   pub store : y.store ≡ x.store
   pub kind : y.kind ≡ x.kind
-  pub grows : x.rows ≤ y.rows
-  pub went : r ≡ (turned (stands_at s k x x.place) (progress x table)).0
-  pub left : progress y after ≡ (turned (stands_at s k x x.place) (progress x table)).1
+  pub grows : x.counts.rows ≤ y.counts.rows
+  pub went : r ≡ (turned (stands_at s k x x.counts.place) (progress x table)).0
+  pub left : progress y after ≡ (turned (stands_at s k x x.counts.place) (progress x table)).1
 
 pub record Pass {S K : Type 0} (s : Stores S) (k : Kinds K) (most : ℕ) (x : Index S K s k) (n : ℕ) (y : Index S K s k) : Type 0 where
   pub store : y.store ≡ x.store
   pub kind : y.kind ≡ x.kind
   pub few : n ≤ most
-  pub within : x.place + n ≤ length (cells_of s x)
-  pub none : (i : ℕ) → i < n → stands_at s k x (x.place + i) ≡ None
-  pub left : (table : List Row) → progress y table ≡ at (x.place + n) (x.skipped + n) x.rows table
+  pub within : x.counts.place + n ≤ length (cells_of s x)
+  pub none : (i : ℕ) → i < n → stands_at s k x (x.counts.place + i) ≡ None
+  pub left : (table : List Row) → progress y table ≡ at (x.counts.place + n) (x.counts.skipped + n) x.counts.rows table
 
 pub record Turns {S K : Type 0} (s : Stores S) (k : Kinds K) (budget : ℕ) (x : Index S K s k) (table : List Row) (stop : Stop) (tests : ℕ) (y : Index S K s k) (after : List Row) : Type 0 where
   pub store : y.store ≡ x.store
   pub kind : y.kind ≡ x.kind
-  pub grows : x.rows ≤ y.rows
+  pub grows : x.counts.rows ≤ y.counts.rows
   pub run : outcome stop tests (progress y after) ≡ scanned (meaning_of k x) (cells_of s x) budget 0 (progress x table)
 
 pub record Scan {S K : Type 0} (s : Stores S) (k : Kinds K) (budget : ℕ) (x : Index S K s k) (table : List Row) (r : Result Scanned ScanRefusal) (y : Index S K s k) (after : List Row) : Type 0 where

@@ -27,4 +27,4 @@ stands_at s k x p = meaning_of k x (cells_of s x) p
 
 -- how far the index has come, with its table
 abbrev pub progress : {S K : Type 0} {s : Stores S} {k : Kinds K} → Index S K s k → List Row → Progress
-progress x table = at x.place x.skipped x.rows table
+progress x table = at x.counts.place x.counts.skipped x.counts.rows table

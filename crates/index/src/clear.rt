@@ -5,7 +5,7 @@ ghost use Rattle.listing.specs.Clearing.{ends_after, clearing, cleared, Tells};
 
 use crate::Index;
 use indexfile::row::Row;
-use listing::answer::{ClearRefusal, Cleared};
+use listing::answer::ClearRefusal;
 use recording::Store;
 use records::kind::RecordKind;
 
@@ -14,36 +14,34 @@ impl<S: Store + Drop, K: RecordKind + Drop> Index<S, K> {
     fn ends_after(&self, at: u32, boundary: u32) -> bool
         ensures { result ≡ ends_after boundary at (stands_at S.Store K.RecordKind self.now at) }
     {
-        match self.kind.test(&self.store, at) {
-            Some(length) => at + length > boundary,
-            None => false,
-        }
+        self.kind
+            .test(&self.store, at)
+            .is_some_and(|length| at + length > boundary)
     }
 
     // The lowest place whose record crosses the boundary; the longest record decides where to begin.
-    fn crossed(&self, boundary: u32) -> Cleared
+    fn crossed(&self, boundary: u32) -> Option<u32>
         requires { boundary ≤ 2147483647 }
         ensures { result ≡ cleared (meaning_of K.RecordKind self.now) (cells_of S.Store self.now) boundary }
     {
+        // a `while`, since it steps over what is vacant too
         let mut at = (boundary + 1).saturating_sub(self.kind.longest());
         while at < boundary {
             if self.ends_after(at, boundary) {
-                return Cleared::Crossed(at);
+                return Some(at);
             }
             at += 1;
             at += self.vacant(at, boundary - at);
         }
-        Cleared::Yes
+        None
     }
 
-    // Whether the boundary is clear, or else the lowest place of a record that crosses it.
-    pub fn clear(&self, table: &[Row], boundary: u32) -> Result<Cleared, ClearRefusal>
+    // The lowest place of a record that crosses the boundary: none exactly if it is clear.
+    pub fn clear(&self, table: &[Row], boundary: u32) -> Result<Option<u32>, ClearRefusal>
         ensures answer { result ≡ clearing (meaning_of K.RecordKind self.now) (cells_of S.Store self.now) boundary (progress self.now table.now) }
         ensures tells { Tells (meaning_of K.RecordKind self.now) (cells_of S.Store self.now) boundary (progress self.now table.now) result }
     {
-        if table.len() < self.rows as usize {
-            return Err(ClearRefusal::ShortTable);
-        }
+        self.held(table).ok_or(ClearRefusal::ShortTable)?;
         if boundary > self.store.len() {
             return Err(ClearRefusal::PastEnd);
         }

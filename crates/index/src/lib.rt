@@ -1,8 +1,11 @@
 // An index of a recording: how far it was read, and how many rows it holds.
 #![tactic(auto)]
 
-ghost use Rattle.std.specs.Prelude.{◌≡◌, ◌≤◌};
+ghost use Rattle.std.specs.Prelude.{◌≡◌, ◌<◌, ◌≤◌, length, take};
+ghost use Rattle.std.specs.Option.{MatchOption};
 
+use indexfile::counts::Counts;
+use indexfile::row::Row;
 use recording::Store;
 use records::kind::RecordKind;
 
@@ -19,31 +22,44 @@ pub mod settle;
 pub struct Index<S: Store + Drop, K: RecordKind + Drop> {
     store: S,
     kind: K,
-    place: u32,
-    skipped: u32,
-    rows: u32,
-    ghost bounds: { (skipped ≤ place) × (place ≤ 2147483647) × (rows ≤ 65536) },
+    // The table is lent by the caller: nothing here allocates.
+    counts: Counts,
+    ghost bounds: { (counts.skipped ≤ counts.place) × (counts.place ≤ 2147483647) × (counts.rows ≤ 65536) },
 }
 
 impl<S: Store + Drop, K: RecordKind + Drop> Index<S, K> {
+    // The rows held, the place reached and the cells skipped.
+    pub fn counts(&self) -> Counts
+        ensures { result ≡ self.now.counts }
+    {
+        self.counts
+    }
+
     // The place reached.
     pub fn place(&self) -> u32
-        ensures { result ≡ self.now.place }
+        ensures { result ≡ self.now.counts.place }
     {
-        self.place
+        self.counts.place
     }
 
     // The cells passed over at which no record stands.
     pub fn skipped(&self) -> u32
-        ensures { result ≡ self.now.skipped }
+        ensures { result ≡ self.now.counts.skipped }
     {
-        self.skipped
+        self.counts.skipped
     }
 
     // The rows held: so many at the front of the table.
     pub fn rows(&self) -> u32
-        ensures { result ≡ self.now.rows }
+        ensures { result ≡ self.now.counts.rows }
     {
-        self.rows
+        self.counts.rows
+    }
+
+    // The rows held, unless the table is shorter.
+    fn held<'a>(&self, table: &'a [Row]) -> Option<&'a [Row]>
+        ensures { MatchOption result (length table.now < self.now.counts.rows) (λ x. (self.now.counts.rows ≤ length table.now) × (x.now ≡ take self.now.counts.rows table.now)) }
+    {
+        table.get(..self.counts.rows as usize)
     }
 }

@@ -6,6 +6,7 @@ ghost use Rattle.listing.specs.Visits.{unused};
 ghost use Rattle.listing.specs.Promise.{Promise};
 
 use crate::Index;
+use indexfile::counts::Counts;
 use recording::Store;
 use records::kind::RecordKind;
 
@@ -18,9 +19,11 @@ impl<S: Store + Drop, K: RecordKind + Drop> Index<S, K> {
         Index {
             store,
             kind,
-            place: 0,
-            skipped: 0,
-            rows: 0,
+            counts: Counts {
+                rows: 0,
+                place: 0,
+                skipped: 0,
+            },
         }
     }
 }

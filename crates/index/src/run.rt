@@ -14,6 +14,7 @@ impl<S: Store + Drop, K: RecordKind + Drop> Index<S, K> {
     pub fn visit(&mut self, table: &mut [Row], buffer: &mut [u8], call: Call) -> Answer
         ensures { Made S.Store K.RecordKind call self.old table.old buffer.old result self.new table.new buffer.new }
     {
+        // A match: a visit is data that the caller lends.
         match call {
             Call::Scan(budget) => Answer::Scan(self.scan(table, budget)),
             Call::Clear(boundary) => Answer::Clear(self.clear(table, boundary)),
@@ -29,9 +30,8 @@ impl<S: Store + Drop, K: RecordKind + Drop> Index<S, K> {
         ensures ran { Ran S.Store K.RecordKind visits.old self.old table.old buffer.old visits.new self.new table.new buffer.new }
         ensures serves { (start : List Row) → Opened S.Store K.RecordKind start self.old table.old → Serves S.Store K.RecordKind start self.new table.new }
     {
-        for i in 0..visits.len() {
-            let answer = self.visit(table, buffer, visits[i].call);
-            visits[i].answer = Some(answer);
+        for visit in visits.iter_mut() {
+            visit.answer = Some(self.visit(table, buffer, visit.call));
         }
     }
 }

@@ -14,19 +14,12 @@ use records::kind::RecordKind;
 
 impl<S: Store + Drop, K: RecordKind + Drop> Index<S, K> {
     // Puts the index file into the front of the buffer, and answers how many bytes it has.
+    // The buffer is lent by the caller: nothing here allocates.
     pub fn save(&self, table: &[Row], buffer: &mut [u8]) -> Result<u32, SaveRefusal>
         ensures value { (result, buffer.new) ≡ saving buffer.old (progress self.now table.now) }
-        ensures law { IfOk result (λ n. ReadsBack self.now.place self.now.skipped (held (progress self.now table.now)) (take n buffer.new)) }
+        ensures law { IfOk result (λ n. ReadsBack self.now.counts.place self.now.counts.skipped (held (progress self.now table.now)) (take n buffer.new)) }
     {
-        if table.len() < self.rows as usize {
-            return Err(SaveRefusal::ShortTable);
-        }
-        let length = write(
-            &table[0..self.rows as usize],
-            self.place,
-            self.skipped,
-            buffer,
-        )?;
-        Ok(length)
+        let held = self.held(table).ok_or(SaveRefusal::ShortTable)?;
+        Ok(write(held, self.counts.place, self.counts.skipped, buffer)?)
     }
 }

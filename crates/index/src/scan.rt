@@ -12,10 +12,11 @@ use recording::Store;
 use records::kind::{Record, RecordKind};
 
 // The most rows that an index holds, and the most tests of one scan.
-const MOST: u32 = 65_536;
+// No plainer shared with indexfile's, which bounds the rows of a file.
+pub const MOST: u32 = 65_536;
 
-// The row of a record that stands at a place.
-pub(crate) fn row_of(place: u32, x: Record) -> Row
+// The row of a record that stands at a place. No From, since both types are of other crates.
+pub fn row_of(place: u32, x: Record) -> Row
     ensures { result ≡ row_at place x }
 {
     Row {
@@ -34,10 +35,7 @@ impl<S: Store + Drop, K: RecordKind + Drop> Index<S, K> {
         requires { is_some (stands_at S.Store K.RecordKind self.now at) ≡ true }
         ensures { option_map (row_at at) (stands_at S.Store K.RecordKind self.now at) ≡ Some result }
     {
-        match self.kind.record(&self.store, at) {
-            Some(x) => row_of(at, x),
-            None => unreachable(),
-        }
+        row_of(at, self.kind.record(&self.store, at).unwrap())
     }
 
     // How many cells from a place on no record begins at, so many at the most, as far as the store has bytes at hand.
@@ -54,32 +52,32 @@ impl<S: Store + Drop, K: RecordKind + Drop> Index<S, K> {
 
     // Skips cells at which no record begins, so many at the most: how many.
     fn pass(&mut self, most: u32) -> u32
-        requires { self.old.place ≤ length (cells_of S.Store self.old) }
+        requires { self.old.counts.place ≤ length (cells_of S.Store self.old) }
         ensures { Pass S.Store K.RecordKind most self.old result self.new }
     {
-        let n = self.vacant(self.place, most);
-        self.place += n;
-        self.skipped += n;
+        let n = self.vacant(self.counts.place, most);
+        self.counts.place += n;
+        self.counts.skipped += n;
         n
     }
 
     // One test: a record fills the next row and is left behind, or one cell is skipped.
-    // False: a record stands here, and no row is free.
+    // False: a record stands here, and no row is free. A bool, since no value goes with either.
     fn turn(&mut self, table: &mut [Row]) -> bool
-        requires { self.old.place < length (cells_of S.Store self.old) }
+        requires { self.old.counts.place < length (cells_of S.Store self.old) }
         ensures { Turn S.Store K.RecordKind self.old table.old result self.new table.new }
     {
-        match self.kind.test(&self.store, self.place) {
+        match self.kind.test(&self.store, self.counts.place) {
             None => {
-                self.place += 1;
-                self.skipped += 1;
+                self.counts.place += 1;
+                self.counts.skipped += 1;
                 true
             }
             Some(length) => {
-                if self.rows < MOST && (self.rows as usize) < table.len() {
-                    table[self.rows as usize] = self.row_at(self.place);
-                    self.rows += 1;
-                    self.place += length;
+                if self.counts.rows < MOST && (self.counts.rows as usize) < table.len() {
+                    table[self.counts.rows as usize] = self.row_at(self.counts.place);
+                    self.counts.rows += 1;
+                    self.counts.place += length;
                     true
                 } else {
                     false
@@ -93,7 +91,8 @@ impl<S: Store + Drop, K: RecordKind + Drop> Index<S, K> {
         ensures { Turns S.Store K.RecordKind budget self.old table.old result.0 result.1 self.new table.new }
     {
         let mut tests = 0;
-        while self.place < self.store.len() {
+        // a `while`, since turns and passes move the place by what they find
+        while self.counts.place < self.store.len() {
             if tests == budget {
                 return (Stop::Spent, tests);
             }
@@ -110,18 +109,16 @@ impl<S: Store + Drop, K: RecordKind + Drop> Index<S, K> {
     pub fn scan(&mut self, table: &mut [Row], budget: u32) -> Result<Scanned, ScanRefusal>
         ensures { Scan S.Store K.RecordKind budget self.old table.old result self.new table.new }
     {
-        if table.len() < self.rows as usize {
-            return Err(ScanRefusal::ShortTable);
-        }
-        if budget < 1 || budget > MOST {
+        self.held(table).ok_or(ScanRefusal::ShortTable)?;
+        if !(1..=MOST).contains(&budget) {
             return Err(ScanRefusal::WrongBudget);
         }
-        let held = self.rows;
+        let held = self.counts.rows;
         let (stop, tests) = self.read_on(table, budget);
         Ok(Scanned {
             stop,
             tests,
-            added: self.rows - held,
+            added: self.counts.rows - held,
         })
     }
 }

@@ -1,9 +1,15 @@
 -- Rows that were found in order one by one.
-use Rattle.std.proofs.Common.{◌≡◌, ℕ, ◌+◌, ◌<◌, ◌≤◌, Bool, true, false, ◌&&◌, eqb, ltb, leb, List, [], ◌∷◌, length, get_or, drop, sym, refl, ap, ◌∙◌, arith}
+use Rattle.std.proofs.Common.{◌≡◌, ℕ, ◌+◌, ◌<◌, ◌≤◌, Bool, true, false, ◌&&◌, eqb, ltb, leb, List, [], ◌∷◌, length, get_or, drop, Option, sym, refl, ap, ◌∙◌, arith}
+use Rattle.std.specs.Iterator.{AlwaysYields}
+use Rattle.std.proofs.lemmas.Iterator.{YieldsList}
 use Rattle.std.proofs.lemmas.List.{drop_more, drop_all}
 use Rattle.std.proofs.lemmas.Bool.{and_parts, and_left, leb-true}
 use Rattle.indexfile.specs.declared.row.Row.{Row}
 use Rattle.indexfile.specs.Files.{lengths, in_order, sound_rows}
+
+-- what is said of all that an iterator gives, at the list that it gives
+pub sound_from : {S : Type 0} {steps : S → Option Row → S → Type 0} {s : S} {r : Bool} {rows : List Row} (f : List Row → Bool) → ((all : List Row) → AlwaysYields steps (λ x. x) s all → r ≡ f all) → YieldsList steps (λ x. x) s rows → r ≡ f rows
+sound_from f e y = e _ y.runs
 
 -- a row behind an end, and by a place
 abbrev pub following : ℕ → ℕ → Row → Bool
@@ -13,8 +19,11 @@ following place end x = ltb 0 x.length && (leb end x.place && leb (x.place + x.l
 pub record Sofar (place : ℕ) (rows : List Row) (n end sum : ℕ) : Type 0 where
   pub left : in_order place end (drop n rows) ≡ in_order place 0 rows
   pub rest : sum + lengths (drop n rows) ≡ lengths rows
-  pub within : sum ≤ end
-  pub upto : end ≤ place
+
+pub behind : (place end : ℕ) (x : Row) → true ≡ following place end x → (end ≤ x.place) × (x.place + x.length ≤ place)
+behind place end x t =
+    let p = and_parts (leb end x.place) (leb (x.place + x.length) place) (and_parts (ltb 0 x.length) _ (sym t)).1 in
+    (leb-true _ _ p.0, leb-true _ _ p.1)
 
 and_four : (a b c d : Bool) → (a && (b && (c && d))) ≡ ((a && (b && c)) && d)
 and_four false b c d = refl
@@ -44,9 +53,5 @@ module _ (place skipped : ℕ) (rows : List Row) (n end sum : ℕ) (s : Sofar pl
 
     pub one_more : true ≡ following place end x → Sofar place rows (n + 1) (x.place + x.length) (sum + x.length)
     one_more t =
-        let p : (leb end x.place && leb (x.place + x.length) place) ≡ true = (and_parts (ltb 0 x.length) _ (sym t)).1 in
-        let a : end ≤ x.place = leb-true _ _ (and_parts (leb end x.place) (leb (x.place + x.length) place) p).0 in
-        let b : x.place + x.length ≤ place = leb-true _ _ (and_parts (leb end x.place) (leb (x.place + x.length) place) p).1 in
         let l : sum + (x.length + lengths (drop (n + 1) rows)) ≡ lengths rows = sym (ap (λ xs. sum + lengths xs) next) ∙ s.rest in
-        let w : sum ≤ end = s.within in
-        record { left = ap (λ c. c && in_order place (x.place + x.length) (drop (n + 1) rows)) t ∙ split; rest = omega arith; within = omega arith; upto = b }
+        record { left = ap (λ c. c && in_order place (x.place + x.length) (drop (n + 1) rows)) t ∙ split; rest = omega arith }

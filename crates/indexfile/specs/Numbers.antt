@@ -1,4 +1,5 @@
 -- Numbers in bytes, the least significant byte first.
+-- They are said again, as in layouts and fields: index files need nothing of the rest.
 use Rattle.std.specs.Prelude.{ℕ, zero, suc, ◌+◌, ◌*◌, ◌/◌, ◌%◌, List, [], ◌∷◌, ◌++◌, length, take, drop}
 
 -- the number that bytes write

@@ -1,7 +1,5 @@
 -- What is read of an index file, or why it is refused.
 use Rattle.std.specs.Prelude.{ℕ, ◌+◌, ◌*◌, cond, List, length, Ok, Err, Result, nat_le, nat_lt}
-use Rattle.indexfile.specs.declared.counts.Counts.{Counts}
-use Rattle.indexfile.specs.declared.file.IndexFile.{IndexFile}
 use Rattle.indexfile.specs.declared.refusal.ReadRefusal.{ReadRefusal}
 use Rattle.indexfile.specs.declared.refusal.ReadRefusal.TheVariants.{Unsound, RowNotHeld}
 use Rattle.indexfile.specs.declared.row.Row.{Row}
@@ -11,10 +9,6 @@ use Rattle.indexfile.specs.Numbers.{number}
 -- the answer, if the file is sound
 abbrev pub reading : {X : Type 0} → List ℕ → Result X ReadRefusal → Result X ReadRefusal
 reading bs answer = cond (sound_file bs) answer (Err Unsound)
-
--- the bytes and the counts of a file that was read
-abbrev pub seen : IndexFile → List ℕ × Counts
-seen f = (f.bytes.now, f.counts)
 
 -- a row that the file counts
 abbrev pub held_row : List ℕ → ℕ → Result Row ReadRefusal

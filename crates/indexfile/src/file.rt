@@ -1,31 +1,34 @@
 // An index file that is read.
-ghost use Rattle.std.specs.Prelude.{◌≡◌, ◌≤◌, length, Ok};
+ghost use Rattle.std.specs.Prelude.{◌≡◌, ◌≤◌, length, true, Ok};
+ghost use Rattle.std.specs.Bool.{then_some};
 ghost use Rattle.std.specs.Result.{result_map_both};
 ghost use Rattle.indexfile.specs.Files.{shaped, sound_file, counts_in};
-ghost use Rattle.indexfile.specs.Reading.{reading, seen, held_row, reached_row};
+ghost use Rattle.indexfile.specs.Reading.{reading, held_row, reached_row};
 
-use crate::body::{Body, row_at};
+use crate::body::{row_of, rows_behind};
 use crate::counts::Counts;
-use crate::numbers::double;
 use crate::refusal::ReadRefusal;
 use crate::row::Row;
-use crate::sound::{MOST, Rows, sound};
+use crate::sound::{MOST, sound};
+use byteorder::{ByteOrder, LittleEndian};
+
+// The bytes of a sound file, and what its header counts.
+#[derive(Clone, Copy)]
+pub struct IndexFile<'a> {
+    bytes: &'a [u8],
+    counts: Counts,
+    ghost sound: { sound_file bytes.now ≡ true },
+}
 
 // A header that counts as many rows as stand behind it.
 fn is_shaped(bytes: &[u8]) -> bool
     ensures { result ≡ shaped bytes.now }
 {
-    if bytes.len() < 16 || double(bytes, 4) != 16 {
+    if bytes.len() < 16 || LittleEndian::read_u32(&bytes[4..]) != 16 {
         return false;
     }
-    let count = double(bytes, 0) as usize;
+    let count = LittleEndian::read_u32(bytes) as usize;
     count <= MOST && bytes.len() == 16 + 20 * count
-}
-
-fn is_sound(bytes: &[u8]) -> bool
-    ensures { result ≡ sound_file bytes.now }
-{
-    is_shaped(bytes) && sound(&Body { bytes }, double(bytes, 8), double(bytes, 12))
 }
 
 fn counts_at(bytes: &[u8]) -> Counts
@@ -33,30 +36,33 @@ fn counts_at(bytes: &[u8]) -> Counts
     ensures { result ≡ counts_in bytes.now }
 {
     Counts {
-        rows: double(bytes, 0),
-        place: double(bytes, 8),
-        skipped: double(bytes, 12),
+        rows: LittleEndian::read_u32(bytes),
+        place: LittleEndian::read_u32(&bytes[8..]),
+        skipped: LittleEndian::read_u32(&bytes[12..]),
     }
 }
 
-// The bytes of a sound file, and what its header counts.
-#[derive(Clone, Copy)]
-pub struct IndexFile<'a> {
-    bytes: &'a [u8],
-    counts: Counts,
+// The counts of a sound file.
+fn sound_counts(bytes: &[u8]) -> Option<Counts>
+    ensures { result ≡ then_some (sound_file bytes.now) (counts_in bytes.now) }
+{
+    if !is_shaped(bytes) {
+        return None;
+    }
+    let counts = counts_at(bytes);
+    let rows = rows_behind(bytes).iter().map(row_of);
+    sound(rows, counts).then_some(counts)
 }
 
 impl<'a> IndexFile<'a> {
+    ghost use Rattle.indexfile.specs.Seen.{seen};
+
     // The file in these bytes, if they are sound.
     pub fn read(bytes: &'a [u8]) -> Result<IndexFile<'a>, ReadRefusal>
         ensures { result_map_both seen (λ e. e) result ≡ reading bytes.now (Ok (bytes.now, counts_in bytes.now)) }
     {
-        if is_sound(bytes) {
-            let counts = counts_at(bytes);
-            Ok(IndexFile { bytes, counts })
-        } else {
-            Err(ReadRefusal::Unsound)
-        }
+        let counts = sound_counts(bytes).ok_or(ReadRefusal::Unsound)?;
+        Ok(IndexFile { bytes, counts })
     }
 
     // The rows held, the place reached and the cells skipped.
@@ -70,11 +76,10 @@ impl<'a> IndexFile<'a> {
     pub fn row(&self, n: u32) -> Result<Row, ReadRefusal>
         ensures { result ≡ reached_row self.now.bytes.now n }
     {
-        if 36 + 20 * n as usize <= self.bytes.len() {
-            Ok(row_at(self.bytes, n as usize))
-        } else {
-            Err(ReadRefusal::RowNotHeld)
-        }
+        rows_behind(self.bytes)
+            .get(n as usize)
+            .map(row_of)
+            .ok_or(ReadRefusal::RowNotHeld)
     }
 }
 

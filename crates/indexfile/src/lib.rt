@@ -4,7 +4,6 @@
 mod body;
 pub mod counts;
 pub mod file;
-mod numbers;
 pub mod refusal;
 pub mod row;
 mod sound;

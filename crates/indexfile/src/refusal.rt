@@ -1,7 +1,7 @@
 // Why an index file is not written or not read.
 ghost use Rattle.indexfile.specs.Refusals.{write_refusal, read_refusal};
 
-use refusals::Refusal;
+use refusals::{Notice, Refusal};
 
 #[derive(Clone, Copy, Debug, PartialEq, Eq)]
 pub enum WriteRefusal {
@@ -22,29 +22,21 @@ pub enum ReadRefusal {
 impl Refusal for WriteRefusal {
     ghost told = { write_refusal };
 
-    fn number(&self) -> u8 {
+    fn notice(&self) -> Notice {
         match self {
-            WriteRefusal::UnsoundRows => 25,
-            WriteRefusal::ShortBuffer => 4,
+            WriteRefusal::UnsoundRows => Notice::nowhere(25),
+            WriteRefusal::ShortBuffer => Notice::nowhere(4),
         }
-    }
-
-    fn place(&self) -> usize {
-        0
     }
 }
 
 impl Refusal for ReadRefusal {
     ghost told = { read_refusal };
 
-    fn number(&self) -> u8 {
+    fn notice(&self) -> Notice {
         match self {
-            ReadRefusal::Unsound => 12,
-            ReadRefusal::RowNotHeld => 21,
+            ReadRefusal::Unsound => Notice::nowhere(12),
+            ReadRefusal::RowNotHeld => Notice::nowhere(21),
         }
-    }
-
-    fn place(&self) -> usize {
-        0
     }
 }

@@ -1,42 +1,15 @@
 // Whether rows are sound, in a table or in a file.
-ghost use Rattle.std.specs.Prelude.{◌≡◌, ◌+◌, ◌<◌, ◌&&◌, List, length, nat_le, nat_lt, slice_index_or};
+ghost use Rattle.std.specs.Prelude.{◌≡◌, ◌+◌, ◌&&◌, List, nat_le, nat_lt};
+ghost use Rattle.std.specs.Iterator.{AlwaysYields, IsFinite};
 ghost use Rattle.indexfile.specs.declared.row.Row.{Row};
 ghost use Rattle.indexfile.specs.Files.{sound_rows};
 
+use crate::counts::Counts;
 use crate::row::Row;
 
 // The most rows of a file.
+// No plainer shared with the limit of an index: index files need nothing of the rest.
 pub(crate) const MOST: usize = 65_536;
-
-// Rows that can be read one by one.
-pub(crate) trait Rows {
-    ghost listed: { Self → List Row };
-
-    fn count(&self) -> usize
-        ensures { result ≡ length (listed self.now) };
-
-    fn row(&self, n: usize) -> Row
-        requires { n < length (listed self.now) }
-        ensures { result ≡ slice_index_or (listed self.now) n result };
-}
-
-// The rows of a table.
-#[derive(Drop)]
-pub(crate) struct Table<'a> {
-    pub(crate) rows: &'a [Row],
-}
-
-impl Rows for Table<'_> {
-    ghost listed = { λ t. t.rows.now };
-
-    fn count(&self) -> usize {
-        self.rows.len()
-    }
-
-    fn row(&self, n: usize) -> Row {
-        self.rows[n]
-    }
-}
 
 // A row that is not empty, begins at the end of the one before it or later, and ends by the place.
 fn follows(end: u64, row: Row, place: u32) -> bool
@@ -48,18 +21,26 @@ fn follows(end: u64, row: Row, place: u32) -> bool
 }
 
 // Each row follows the one before it, and the skipped cells and the rows make up the place.
-pub(crate) fn sound<R: Rows>(rows: &R, place: u32, skipped: u32) -> bool
-    ensures { result ≡ sound_rows place skipped (R.Rows.listed rows.now) }
+pub(crate) fn sound<I: Iterator<Item = Row> + Drop>(rows: I, counts: Counts) -> bool
+    requires can { I.can_next rows }
+    requires ends { IsFinite (I.remaining rows) }
+    ensures { (all : List Row) → AlwaysYields I.next_gives (λ x. x) rows all → result ≡ sound_rows counts.place counts.skipped all }
 {
     let mut end = 0;
     let mut sum = 0;
-    for n in 0..rows.count() {
-        let row = rows.row(n);
-        if !follows(end, row, place) {
+    for row in rows {
+        if !follows(end, row, counts.place) {
             return false;
         }
         end = row.place as u64 + row.length as u64;
         sum += row.length as u64;
     }
-    place as u64 == skipped as u64 + sum
+    counts.place as u64 == counts.skipped as u64 + sum
+}
+
+// Whether the rows of a table are sound.
+pub(crate) fn is_sound(rows: &[Row], counts: Counts) -> bool
+    ensures { result ≡ sound_rows counts.place counts.skipped rows.now }
+{
+    sound(rows.iter().copied(), counts)
 }

@@ -5,5 +5,6 @@ pub mod Letters
 pub mod Catalogue
 pub mod Members
 pub mod Settings
+pub mod Kinds
 pub mod Examples
 pub mod Located

@@ -7,8 +7,8 @@ ghost use Rattle.layouts.specs.Letters.{total as total_of};
 ghost use Rattle.layouts.specs.Catalogue.{laid, layout_of, fixed_body, Sums};
 
 use crate::fault::LayoutFault;
-use crate::letters::Letter;
 use crate::letters::Letter::{B, D, F, L, R, S, W};
+use crate::letters::{Letter, Letters};
 
 // The letters of a fixed body, and how many bytes they take.
 #[derive(Clone, Copy)]
@@ -18,6 +18,7 @@ pub struct Layout {
 }
 
 // The layout of a type, if its bodies are fixed.
+// Names for the types would be no plainer: each number stands once, beside its letters.
 pub fn layout_of(data_type: u32) -> Option<Layout>
     ensures value { option_map laid result ≡ layout_of data_type }
     ensures whole { IfSome result (λ l. (l.length ≡ total_of l.letters.now) × (length l.letters.now ≤ 100)) }
@@ -54,21 +55,22 @@ pub fn layout_of(data_type: u32) -> Option<Layout>
     Some(Layout { letters, length })
 }
 
-pub(crate) fn fixed_layout(data_type: u32, body: &[u8]) -> Result<Layout, LayoutFault>
-    ensures value { result_map_both laid (λ e. e) result ≡ fixed_body data_type body.now }
-    ensures whole { IfOk result (λ l. (length body.now ≡ total_of l.letters.now) × (length l.letters.now ≤ 100)) }
+// The letters of a body that is as long as they are.
+pub(crate) fn fixed_letters(data_type: u32, body: &[u8]) -> Result<Letters<'static>, LayoutFault>
+    ensures value { result_map_both (λ l. (l.letters.now, length body.now)) (λ e. e) result ≡ fixed_body data_type body.now }
+    ensures whole { IfOk result (λ l. length body.now ≡ total_of l.letters.now) }
 {
-    let layout = layout_of(data_type).ok_or(LayoutFault::NoLayout)?;
-    if body.len() != layout.length {
+    let Layout { letters, length } = layout_of(data_type).ok_or(LayoutFault::NoLayout)?;
+    if body.len() != length {
         return Err(LayoutFault::Length);
     }
-    Ok(layout)
+    Ok(Letters { letters })
 }
 
 // Whether a body has the length of its type's layout.
+// A function of its own, since callers judge without the parts.
 pub fn judge_fixed(data_type: u32, body: &[u8]) -> Result<(), LayoutFault>
     ensures { result ≡ sound (fixed_body data_type body.now) }
 {
-    fixed_layout(data_type, body)?;
-    Ok(())
+    fixed_letters(data_type, body).map(|_| ())
 }

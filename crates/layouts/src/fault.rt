@@ -1,7 +1,7 @@
 // What may be wrong with a body of members.
 ghost use Rattle.layouts.specs.Faults.{layout_fault};
 
-use refusals::Refusal;
+use refusals::{Notice, Refusal};
 
 #[derive(Clone, Copy, Debug, PartialEq, Eq)]
 pub enum LayoutFault {
@@ -20,20 +20,12 @@ pub enum LayoutFault {
 impl Refusal for LayoutFault {
     ghost told = { layout_fault };
 
-    fn number(&self) -> u8 {
-        match self {
-            LayoutFault::NoLayout => 5,
-            LayoutFault::Length => 6,
-            LayoutFault::Version => 7,
-            LayoutFault::HeadControllerVersion(_) | LayoutFault::HidType(_) => 8,
-        }
-    }
-
-    fn place(&self) -> usize {
+    fn notice(&self) -> Notice {
         match *self {
-            LayoutFault::NoLayout | LayoutFault::Length => 0,
-            LayoutFault::Version => 13,
-            LayoutFault::HeadControllerVersion(at) | LayoutFault::HidType(at) => at,
+            LayoutFault::NoLayout => Notice::nowhere(5),
+            LayoutFault::Length => Notice::nowhere(6),
+            LayoutFault::Version => Notice::at(7, 13),
+            LayoutFault::HeadControllerVersion(at) | LayoutFault::HidType(at) => Notice::at(8, at),
         }
     }
 }

@@ -1,5 +1,5 @@
 // The letters of members, and the fields of a row of letters.
-ghost use Rattle.std.specs.Prelude.{◌≡◌, ◌+◌, ◌≤◌, length, IfSome};
+ghost use Rattle.std.specs.Prelude.{◌≡◌, ◌≤◌, length};
 ghost use Rattle.layouts.specs.Letters.{size, total, field_of};
 
 // What a member is: a floating number of 64 or 32 bits, uint32, uint16, int16, a byte, or a run of so many bytes.
@@ -30,25 +30,26 @@ impl Letter {
 }
 
 // How many bytes the members take together.
-pub(crate) fn total(letters: &[Letter]) -> usize
+fn total(letters: &[Letter]) -> usize
     requires { length letters.now ≤ 100 }
     ensures { result ≡ total letters.now }
 {
-    let mut at = 0;
-    for letter in letters {
-        at += letter.size();
-    }
-    at
+    letters.iter().map(|letter| letter.size()).sum()
 }
 
-// The place and the letter of a field.
-pub(crate) fn field_of(letters: &[Letter], n: usize) -> Option<(usize, Letter)>
-    requires { length letters.now ≤ 100 }
-    ensures value { result ≡ field_of letters.now n }
-    ensures within { IfSome result (λ p. p.0 + size p.1 ≤ total letters.now) }
-{
-    if n >= letters.len() {
-        return None;
+// The letters of a body, few enough to add up their bytes.
+#[derive(Clone, Copy)]
+pub(crate) struct Letters<'a> {
+    pub(crate) letters: &'a [Letter],
+    ghost few: { length letters.now ≤ 100 },
+}
+
+impl Letters<'_> {
+    // The place and the letter of a field.
+    pub(crate) fn field(self, n: usize) -> Option<(usize, Letter)>
+        ensures { result ≡ field_of self.entry.letters.now n }
+    {
+        let letter = *self.letters.get(n)?;
+        Some((total(&self.letters[..n]), letter))
     }
-    Some((total(&letters[..n]), letters[n]))
 }

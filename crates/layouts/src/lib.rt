@@ -1,10 +1,10 @@
 // Bodies that are members end to end: the fixed bodies and settings.
-#![tactic(auto)]
+#![tactic(auto, using(crate::proofs::Numbers::number_read))]
 
 pub mod catalogue;
 pub mod fault;
+pub mod kind;
 pub mod letters;
 pub mod locate;
 mod members;
-mod numbers;
 pub mod settings;

@@ -1,11 +1,13 @@
 // The members of settings, and which of them stand.
-ghost use Rattle.std.specs.Prelude.{◌≡◌, ◌+◌, ◌≤◌, length, take, IfSome};
-ghost use Rattle.layouts.specs.Letters.{size, total, field_of};
-ghost use Rattle.layouts.specs.Members.{stands, present, settings_letters};
+ghost use Rattle.std.specs.Prelude.{◌≡◌, ◌≤◌, length};
+ghost use Rattle.layouts.specs.Letters.{field_of};
+ghost use Rattle.layouts.specs.Located.{letters_said};
+ghost use Rattle.layouts.specs.Members.{stands, present};
 
 use self::Stands::{From, HighRate, LowRate};
+use crate::letters::Letter;
 use crate::letters::Letter::{B, L, R, S, W};
-use crate::letters::{Letter, field_of};
+use crate::settings::Settings;
 
 // The members of settings: the twelve of the extra header, and those behind it.
 const MEMBERS: [(Stands, Letter); 100] = [
@@ -120,10 +122,11 @@ enum Stands {
 }
 
 impl Stands {
-    fn stands(self, version: u8, altimeter: bool) -> bool
-        ensures { result ≡ stands version altimeter self }
+    fn stands(self, settings: Settings) -> bool
+        ensures { result ≡ stands settings.version settings.altimeter self }
     {
-        let high = version >= 6 || (version >= 3 && altimeter);
+        let version = settings.version;
+        let high = version >= 6 || (version >= 3 && settings.altimeter);
         match self {
             Stands::From(first) => first <= version,
             Stands::HighRate => high,
@@ -132,30 +135,32 @@ impl Stands {
     }
 }
 
-// Fills in the letters of the members that stand, and answers their number.
-fn fill(members: &[(Stands, Letter)], version: u8, altimeter: bool, letters: &mut [Letter]) -> usize
-    requires { length members.now ≤ length letters.old }
-    ensures value { take result letters.new ≡ present version altimeter members.now }
-    ensures bound { result ≤ length members.now }
+// The place and the letter of a field of those members that stand.
+fn field_of(members: &[(Stands, Letter)], settings: Settings, n: usize) -> Option<(usize, Letter)>
+    requires { length members.now ≤ 100 }
+    ensures { result ≡ field_of (present settings.version settings.altimeter members.now) n }
 {
-    let mut count = 0;
-    for m in members {
-        let (stands, letter) = *m;
-        if !stands.stands(version, altimeter) {
+    // one walk counts fields and bytes: of a chain of filters no proof closed
+    let mut at = 0;
+    let mut left = n;
+    for (stands, letter) in members {
+        if !stands.stands(settings) {
             continue;
         }
-        letters[count] = letter;
-        count += 1;
+        if left == 0 {
+            return Some((at, *letter));
+        }
+        at += letter.size();
+        left -= 1;
     }
-    count
+    None
 }
 
-// The place and the letter of a field of settings.
-pub(crate) fn settings_field(version: u8, altimeter: bool, n: usize) -> Option<(usize, Letter)>
-    ensures value { result ≡ field_of (settings_letters version altimeter) n }
-    ensures within { IfSome result (λ p. p.0 + size p.1 ≤ total (settings_letters version altimeter)) }
-{
-    let mut letters = [B; 100];
-    let count = fill(&MEMBERS, version, altimeter, &mut letters);
-    field_of(&letters[..count], n)
+impl Settings {
+    // The place and the letter of a field of settings.
+    pub(crate) fn field(self, n: usize) -> Option<(usize, Letter)>
+        ensures { result ≡ field_of (letters_said self) n }
+    {
+        field_of(&MEMBERS, self, n)
+    }
 }

@@ -1,8 +1,9 @@
 -- Facts on words.
-use Rattle.std.proofs.Common.{◌≡◌, ℕ, ◌+◌, ◌-◌, ◌<◌, Bool, true, false, cond, ◌&&◌, eqb, List, [], ◌∷◌, ◌++◌, length, get_or, take, drop, Some, None, codes, Option, sym, refl, ap, ◌∙◌, le_of_suc-le-suc, not-suc-le-zero, arith, length-drop}
+use Rattle.std.specs.Cmp.Lexicographic.{pointwise}
+use Rattle.std.proofs.Common.{nat_eq, zero, suc, ◌≤◌, ◌≢◌, ◌≡◌, ℕ, ◌+◌, ◌-◌, ◌<◌, Bool, true, false, cond, ◌&&◌, eqb, List, [], ◌∷◌, ◌++◌, length, get_or, take, drop, Some, None, codes, Option, sym, refl, ap, ◌∙◌, le_of_suc-le-suc, not-suc-le-zero, arith, length-drop}
 use Rattle.std.proofs.lemmas.List.{at_drop_more, take_more, take_all}
 use Rattle.std.proofs.lemmas.Bool.{eq-eqb, ne_eqb}
-use Rattle.std.specs.Option.{option_map, option_zip}
+use Rattle.std.specs.Option.{option_map, option_zip, MatchOption}
 use Rattle.records.specs.Sentences.{begins}
 use Rattle.lister.specs.Words.{with_digit, following, number_on, number_of, pair_on, extent_of, stretch_of, worded}
 
@@ -31,31 +32,20 @@ pub pair_here : (bs : List ℕ) (i : ℕ) → i < length bs → get_or bs i 0 �
 pair_here bs i h e =
     sym (at_drop_more (pair_on (take i bs)) bs i 0 h ∙ ap (λ b. cond b (option_zip (number_of (take i bs)) (number_of (drop (i + 1) bs))) (pair_on (take i bs ++ get_or bs i 0 ∷ []) (drop (i + 1) bs))) (eq-eqb (get_or bs i 0) 58 e))
 
--- one character of a front
-front_at : (xs bs : List ℕ) (i : ℕ) → i < length xs → i < length bs → begins (drop i xs) (drop i bs) ≡ (eqb (get_or bs i 0) (get_or xs i 0) && begins (drop (i + 1) xs) (drop (i + 1) bs))
-front_at xs bs i h l = at_drop_more (λ ys. begins ys (drop i bs)) xs i 0 h ∙ at_drop_more (λ cs. begins (get_or xs i 0 ∷ drop (i + 1) xs) cs) bs i 0 l
+-- no colon stands before a place
+pub pair_until : (bs : List ℕ) (i : ℕ) → i ≤ length bs → ((k : ℕ) → k < i → get_or bs k 0 ≢ 58) → pair_on (take i bs) (drop i bs) ≡ pair_on [] bs
+pair_until bs zero h n = refl
+pair_until bs (suc i) h n =
+    let l : i < length bs = omega arith in
+    let e : i + 1 ≡ suc i = omega arith in
+    ap (λ k. pair_on (take k bs) (drop k bs)) (sym e) ∙ pair_more bs i l (n i (omega arith)) ∙ pair_until bs i (omega arith) (λ k m. n k (omega arith))
 
-pub front_more : (xs bs : List ℕ) (i : ℕ) → i < length xs → i < length bs → get_or bs i 0 ≡ get_or xs i 0 → begins (drop (i + 1) xs) (drop (i + 1) bs) ≡ begins (drop i xs) (drop i bs)
-front_more xs bs i h l e = sym (front_at xs bs i h l ∙ ap (λ b. b && begins (drop (i + 1) xs) (drop (i + 1) bs)) (eq-eqb (get_or bs i 0) (get_or xs i 0) e))
+-- a front that stands before a text, as the library compares it
+pub front_is : (xs bs : List ℕ) → pointwise nat_eq (take (length xs) bs) xs ≡ begins xs bs
+front_is [] bs = refl
+front_is (x ∷ xs) [] = refl
+front_is (x ∷ xs) (b ∷ bs) = ap (λ r. nat_eq b x && r) (front_is xs bs)
 
-pub front_other : (xs bs : List ℕ) (i : ℕ) → i < length xs → i < length bs → (get_or bs i 0 ≡ get_or xs i 0 → ⊥) → false ≡ begins (drop i xs) (drop i bs)
-front_other xs bs i h l n = sym (front_at xs bs i h l ∙ ap (λ b. b && begins (drop (i + 1) xs) (drop (i + 1) bs)) (ne_eqb (get_or bs i 0) (get_or xs i 0) n))
-
-and_never : (b : Bool) → (b && false) ≡ false
-and_never true = refl
-and_never false = refl
-
-pub front_short : (xs bs : List ℕ) → length bs < length xs → begins xs bs ≡ false
-front_short [] bs h = absurd (not-suc-le-zero h)
-front_short (x ∷ xs) [] h = refl
-front_short (x ∷ xs) (b ∷ bs) h = ap (λ r. eqb b x && r) (front_short xs bs (le_of_suc-le-suc h)) ∙ and_never (eqb b x)
-
--- what a word names, by its front
-pub extent_word : (bs : List ℕ) (o : Option (ℕ × ℕ)) → true ≡ begins (codes "extent=") bs → o ≡ pair_on [] (drop 7 bs) → option_map extent_of o ≡ worded bs
-extent_word bs o t e = ap (option_map extent_of) e ∙ ap (λ b. cond b (option_map extent_of (pair_on [] (drop 7 bs))) (cond (begins (codes "lost=") bs) (option_map stretch_of (pair_on [] (drop 5 bs))) None)) t
-
-pub lost_word : (bs : List ℕ) (o : Option (ℕ × ℕ)) → false ≡ begins (codes "extent=") bs → true ≡ begins (codes "lost=") bs → o ≡ pair_on [] (drop 5 bs) → option_map stretch_of o ≡ worded bs
-lost_word bs o f t e =
-    ap (option_map stretch_of) e
-    ∙ ap (λ b. cond b (option_map stretch_of (pair_on [] (drop 5 bs))) None) t
-    ∙ ap (λ b. cond b (option_map extent_of (pair_on [] (drop 7 bs))) (cond (begins (codes "lost=") bs) (option_map stretch_of (pair_on [] (drop 5 bs))) None)) f
+pub behind_is : {R : Type 0} (now : R → List ℕ) (xs bs : List ℕ) (r : Option R) → MatchOption r (pointwise nat_eq (take (length xs) bs) xs ≡ false) (λ x. (pointwise nat_eq (take (length xs) bs) xs ≡ true) × (now x ≡ drop (length xs) bs) × (length (now x) + length xs ≡ length bs)) → option_map now r ≡ cond (begins xs bs) (Some (drop (length xs) bs)) None
+behind_is now xs bs None h = ap (λ b. cond b (Some (drop (length xs) bs)) None) (sym h ∙ front_is xs bs)
+behind_is now xs bs (Some x) h = ap Some h.1 ∙ ap (λ b. cond b (Some (drop (length xs) bs)) None) (sym h.0 ∙ front_is xs bs)

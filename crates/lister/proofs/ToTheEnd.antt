@@ -1,4 +1,5 @@
 -- One scan of a short recording, with a row for each cell, comes to the end.
+use Rattle.std.proofs.lemmas.List.{take-take}
 use Rattle.std.proofs.Common.{◌≡◌, ℕ, ◌+◌, ◌≤◌, List, [], ◌∷◌, ◌++◌, length, take, drop, sym, refl, ap, ◌∙◌, subst, append-nil, arith, take-append-drop}
 use Rattle.recording.specs.declared.Cell.{Cell}
 use Rattle.records.specs.Records.{Meaning, Laws}
@@ -9,7 +10,7 @@ use Rattle.listing.specs.declared.answer.Stop.TheVariants.{Ended, Spent, Full}
 use Rattle.listing.specs.declared.answer.Scanned.{Scanned}
 use Rattle.listing.specs.Listing.{listing}
 use Rattle.indexfile.specs.Files.{lengths}
-use Rattle.listing.specs.Progress.{Progress, held}
+use Rattle.listing.specs.Progress.{Progress, at, held}
 use Rattle.listing.specs.Scanning.{scanning}
 use Rattle.listing.specs.Visits.{visited, unused}
 use Rattle.listing.specs.Promise.{Why, extra, Goes, Used, Promise}
@@ -51,3 +52,7 @@ reads_all {m = m} laws cs ds table v s t promise short size ecs ev es left =
     let here : t ≡ (scanning m cs 65536 (unused table)).1 = left ∙ (λ j. visited m cs (ev j ∷ []) (es j)) in
     let there : Ends m cs t = subst (Ends m cs) (sym here) (ends laws cs promise table (omega arith) (omega arith)) in
     subst (λ z. Ends m z t) ecs there
+
+-- the rows held, and no more of the table
+pub cut : {m : Meaning} {cs : List Cell} (p s r : ℕ) (t u : List Row) → u ≡ take r t → Ends m cs (at p s r t) → Ends m cs (at p s r u) × (u ≡ listing m cs)
+cut p s r t u e x = (record { rows = ap (take r) e ∙ take-take r r t (omega arith) ∙ x.rows; place = x.place; sum = x.sum }, e ∙ x.rows)

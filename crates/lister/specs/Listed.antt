@@ -16,10 +16,10 @@ pub record Ends (m : Meaning) (cs : List Cell) (s : Progress) : Type 0 where
   pub sum : s.place ≡ s.skipped + lengths (listing m cs)
 
 abbrev pub progress_of : Listed → Progress
-progress_of l = at l.counts.place l.counts.skipped l.counts.rows (vec_items l.table)
+progress_of l = at l.counts.place l.counts.skipped l.counts.rows (vec_items l.rows)
 
--- at most 32,768 cells are listed, and those whole
+-- at most 32,768 cells are listed, and those whole: the rows are those of the listing
 abbrev pub Lists : Meaning → List Cell → Result Listed ListError → Type 0
-Lists m cs (Ok l) = (length cs ≤ 32768) × Ends m cs (progress_of l)
+Lists m cs (Ok l) = (length cs ≤ 32768) × Ends m cs (progress_of l) × (vec_items l.rows ≡ listing m cs)
 Lists m cs (Err TooLong) = 32768 < length cs
 Lists m cs (Err Memory) = length cs ≤ 32768

@@ -38,7 +38,7 @@ fn print_named(rt: &HostRuntime, image: &[u8], named: &Named) -> io::Result<()> 
     }
     let mut store = Stretches::new(rows);
     for lost in named.lost.iter() {
-        if let Err(e) = store.mark(lost.first, lost.count) {
+        if let Err(e) = store.mark(*lost) {
             print_refusal(rt, &e)?;
         }
     }

@@ -6,9 +6,11 @@ ghost use Rattle.lister.specs.declared.ListError.TheVariants.{Memory};
 ghost use Rattle.lister.specs.Listed.{Ends, Lists};
 ghost use Rattle.recording.specs.Cells.{plain};
 ghost use Rattle.listing.specs.Progress.{at};
-ghost use Rattle.lister.specs.Lines.{row_text, end_text, refusal_text};
+ghost use Rattle.indexfile.specs.Lines.{row_text};
+ghost use Rattle.lister.specs.Lines.{end_text, refusal_text};
 
 use index::Index;
+use indexfile::counts::Counts;
 use indexfile::row::Row;
 use listing::answer::{Call, Visit};
 use recording::Store;
@@ -24,18 +26,10 @@ pub mod words;
 // The most cells that are listed.
 pub const MOST: usize = 32_768;
 
-// The counts of an index at the end of its recording.
-#[derive(Clone, Copy)]
-pub struct Counts {
-    pub rows: u32,
-    pub place: u32,
-    pub skipped: u32,
-}
-
-// A recording read to its end: the table with its rows in front.
+// A recording read to its end: its rows, and how far an index came.
 #[derive(Drop)]
 pub struct Listed {
-    pub table: Vec<Row>,
+    pub rows: Vec<Row>,
     pub counts: Counts,
 }
 
@@ -46,6 +40,7 @@ pub enum ListError {
     Memory,
 }
 
+// By hand, since contracts speak of the error that `?` makes.
 impl From<AllocError> for ListError {
     ghost from_gives = { λ _ y. y ≡ Memory };
 
@@ -57,15 +52,7 @@ impl From<AllocError> for ListError {
 fn blank_table(heap: Global, rows: usize) -> Result<Vec<Row>, AllocError>
     ensures { IfOk result (λ v. vec_len v ≡ rows) }
 {
-    let blank = Row {
-        place: 0,
-        length: 0,
-        tag: 0,
-        source_type: 0,
-        source_id: 0,
-        time: 0,
-    };
-    vec![in heap; blank; rows]
+    vec![in heap; Row::default(); rows]
 }
 
 // Reads a recording to its end: a table with a row for each cell is never full, and one scan suffices.
@@ -74,13 +61,9 @@ fn read_whole<S: Store + Drop, K: RecordKind + Drop>(store: S, kind: K, table: &
     ensures { Ends (K.RecordKind.stands kind) (S.Store.cells store) (at result.place result.skipped result.rows table.new) }
 {
     let mut index = Index::open(store, kind);
-    let mut visits = [Visit::new(Call::Scan(65_536))];
+    let mut visits = [Visit::new(Call::Scan(index::scan::MOST))];
     index.run(table, &mut [], &mut visits);
-    Counts {
-        rows: index.rows(),
-        place: index.place(),
-        skipped: index.skipped(),
-    }
+    index.counts()
 }
 
 // Every row of the recording that a store holds.
@@ -97,7 +80,11 @@ pub fn list_store<S: Store + Drop, K: RecordKind + Drop>(
     }
     let mut table = blank_table(heap, cells)?;
     let counts = read_whole(store, kind, &mut table);
-    Ok(Listed { table, counts })
+    table.truncate(counts.rows as usize);
+    Ok(Listed {
+        rows: table,
+        counts,
+    })
 }
 
 // Every row of the recording that the bytes are.
@@ -111,18 +98,10 @@ pub fn list<K: RecordKind + Drop>(heap: Global, kind: K, bytes: &[u8]) -> Result
 pub fn row_line(heap: Global, row: Row) -> Result<String, AllocError>
     ensures { IfOk result (λ s. string_bytes s ≡ row_text row) }
 {
-    let Row {
-        place,
-        length,
-        tag,
-        source_type,
-        source_id,
-        time,
-    } = row;
-    format!(in heap; "{place} {length} {tag} {source_type} {source_id} {time}")
+    row.to_string(heap)
 }
 
-// The line that closes a listing.
+// The line that closes a listing. No Display: the words are those of this program's listing, not of the counts.
 pub fn end_line(heap: Global, counts: Counts) -> Result<String, AllocError>
     ensures { IfOk result (λ s. string_bytes s ≡ end_text counts) }
 {
@@ -138,7 +117,6 @@ pub fn end_line(heap: Global, counts: Counts) -> Result<String, AllocError>
 pub fn refusal_line<R: Refusal>(heap: Global, refusal: &R) -> Result<String, AllocError>
     ensures { IfOk result (λ s. string_bytes s ≡ refusal_text (R.Refusal.told refusal.now)) }
 {
-    let number = refusal.number();
-    let place = refusal.place();
-    format!(in heap; "refused {number} {place}")
+    let notice = refusal.notice();
+    format!(in heap; "refused {notice}")
 }

@@ -5,7 +5,8 @@ use std::alloc::AllocError;
 use std::io;
 use std::io::Read;
 
-// All of standard input, or enough of it to see that it is too long.
+// All of standard input, or enough of it to see that it is too long. By parts, and not by the library's
+// `read_to_end`: the end of the input is a test here, and an edit that takes it away has to be refused.
 pub(crate) fn read_input(rt: &HostRuntime) -> io::Result<Vec<u8>> {
     let mut stdin = rt.stdin();
     let mut all = Vec::new(rt.alloc());
@@ -21,7 +22,7 @@ pub(crate) fn read_input(rt: &HostRuntime) -> io::Result<Vec<u8>> {
 }
 
 fn print_rows(rt: &HostRuntime, listed: &Listed) -> io::Result<()> {
-    for row in listed.table.iter().take(listed.counts.rows as usize) {
+    for row in listed.rows.iter() {
         rt.println(row_line(rt.alloc(), *row)?)?;
     }
     rt.println(end_line(rt.alloc(), listed.counts)?)

@@ -1,5 +1,6 @@
 // Words that name the pieces of a recording in a card image, and what is lost of it.
-ghost use Rattle.std.specs.Prelude.{◌≡◌, ◌≤◌, true, [], length};
+ghost use Rattle.std.specs.Prelude.{◌≡◌, ◌<◌, ◌≢◌, ℕ, [], length, slice_index, IfSome, IfNone, drop, if◌then◌else◌, Some, None};
+ghost use Rattle.std.specs.Option.{option_map};
 ghost use Rattle.lister.specs.Words.{with_digit, number_of, pair_on, worded};
 ghost use Rattle.records.specs.Sentences.{begins};
 
@@ -16,18 +17,14 @@ pub enum Word {
 fn with_digit(n: u32, digit: u8) -> Option<u32>
     ensures { result ≡ with_digit n digit }
 {
-    if digit < b'0' || digit > b'9' {
+    if !digit.is_ascii_digit() {
         return None;
     }
-    let more = 10 * n as u64 + (digit - b'0') as u64;
-    if more <= 4_294_967_295 {
-        Some(more as u32)
-    } else {
-        None
-    }
+    n.checked_mul(10)?.checked_add(u32::from(digit - b'0'))
 }
 
-// The number that a text of decimal digits writes.
+// The number that a text of decimal digits writes. Not the library's `parse`, which takes a sign too; and a `for`,
+// since of a `try_fold` over the digits no proof closed.
 fn number(text: &[u8]) -> Option<u32>
     ensures { result ≡ number_of text.now }
 {
@@ -36,39 +33,32 @@ fn number(text: &[u8]) -> Option<u32>
     }
     let mut n = 0;
     for digit in text {
-        let Some(more) = with_digit(n, *digit) else {
-            return None;
-        };
-        n = more;
+        n = with_digit(n, *digit)?;
     }
     Some(n)
+}
+
+// Where the first colon stands. On bytes, and not by `split_once`: a word that is no text is a word that names nothing.
+fn colon(text: &[u8]) -> Option<usize>
+    ensures none { IfNone result ((k : ℕ) → k < length text.now → slice_index text.now k ≢ 58) }
+    ensures some { IfSome result (λ i. (i < length text.now) × (slice_index text.now i ≡ 58) × ((k : ℕ) → k < i → slice_index text.now k ≢ 58)) }
+{
+    text.iter().position(|c| *c == b':')
 }
 
 // Two numbers with a colon between them.
 fn pair(text: &[u8]) -> Option<(u32, u32)>
     ensures { result ≡ pair_on [] text.now }
 {
-    for (i, c) in text.iter().enumerate() {
-        if *c == b':' {
-            return number(&text[..i]).zip(number(&text[i + 1..]));
-        }
-    }
-    None
+    let at = colon(text)?;
+    number(&text[..at]).zip(number(&text[at + 1..]))
 }
 
-fn starts(text: &[u8], front: &[u8]) -> bool
-    ensures is { result ≡ begins front.now text.now }
-    ensures within { result ≡ true → length front.now ≤ length text.now }
+// What stands behind a front.
+fn behind<'a>(text: &'a [u8], front: &[u8]) -> Option<&'a [u8]>
+    ensures value { option_map (λ s. s.now) result ≡ (if begins front.now text.now then Some (drop (length front.now) text.now) else None) }
 {
-    if text.len() < front.len() {
-        return false;
-    }
-    for (i, x) in front.iter().enumerate() {
-        if text[i] != *x {
-            return false;
-        }
-    }
-    true
+    text.strip_prefix(front)
 }
 
 impl Word {
@@ -76,18 +66,11 @@ impl Word {
     pub fn read(text: &[u8]) -> Option<Word>
         ensures { result ≡ worded text.now }
     {
-        if starts(text, b"extent=") {
-            let Some((place, length)) = pair(&text[7..]) else {
-                return None;
-            };
+        if let Some(rest) = behind(text, b"extent=") {
+            let (place, length) = pair(rest)?;
             return Some(Word::Extent(Extent { place, length }));
         }
-        if starts(text, b"lost=") {
-            let Some((first, count)) = pair(&text[5..]) else {
-                return None;
-            };
-            return Some(Word::Lost(Stretch { first, count }));
-        }
-        None
+        let (first, count) = pair(behind(text, b"lost=")?)?;
+        Some(Word::Lost(Stretch { first, count }))
     }
 }

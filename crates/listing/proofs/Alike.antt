@@ -1,19 +1,18 @@
 -- Two indexes settle and inspect alike what lies behind clear boundaries that the same cells follow.
-use Rattle.std.proofs.Common.{◌≡◌, ℕ, ◌+◌, ◌<◌, ◌≤◌, true, false, cond, ◌&&◌, eqb, ltb, List, ◌++◌, length, take, drop, is_some, Some, Ok, Err, filter, Result, sym, refl, ap, ◌∙◌, inl, inr, arith}
+use Rattle.std.proofs.Common.{◌≡◌, ℕ, ◌+◌, ◌<◌, ◌≤◌, true, false, cond, ltb, List, ◌++◌, take, drop, Some, Ok, Err, filter, Result, sym, refl, ap, ◌∙◌, inl, inr, arith}
 use Rattle.std.specs.List.{AllByRecursion}
 use Rattle.std.specs.Option.{ok_or}
 use Rattle.std.specs.Result.{result_map_both}
-use Rattle.std.proofs.lemmas.Bool.{lt-ltb, le-ltb, ltb-true, cases_lt}
+use Rattle.std.proofs.lemmas.Bool.{ltb-true}
 use Rattle.std.proofs.lemmas.List.Elements.{filter-append}
 use Rattle.std.proofs.ByRecursion.{All-weaker, all_kept_by, kept_by_passes}
 use Rattle.recording.specs.declared.Cell.{Cell}
 use Rattle.records.specs.Records.{Meaning, Laws}
 use Rattle.layouts.specs.declared.settings.Counter.TheVariants.{Without}
 use Rattle.bodies.specs.declared.fault.TupleFault.{TupleFault}
-use Rattle.bodies.specs.Judge.{needs_settings, tuple_of}
+use Rattle.bodies.specs.Judge.{needs_settings}
 use Rattle.indexfile.specs.declared.row.Row.{Row}
 use Rattle.listing.specs.declared.answer.FetchRefusal.{FetchRefusal}
-use Rattle.listing.specs.declared.answer.FetchRefusal.TheVariants.{ShortBuffer}
 use Rattle.listing.specs.declared.answer.SettleRefusal.TheVariants.{NoSettings}
 use Rattle.listing.specs.Listing.{listing, Clear, ahead, behind}
 use Rattle.listing.specs.Progress.{Progress}
@@ -24,6 +23,7 @@ use Rattle.listing.proofs.SameTest.{same_test}
 use Rattle.listing.proofs.Lists.{lists_from}
 use Rattle.listing.proofs.HeldRows.{Faithful, row_made, rows_before, settle_held, fetch_held}
 use Rattle.listing.proofs.Moved.{split, Moved, kept_each, last_behind, last_join, last_each, same_bytes, same_body, stands_too, each_moved}
+use Rattle.std.proofs.lemmas.Grind.{common_steps}
 
 -- an inspection but for the row's number
 unnumbered_is : (n : ℕ) (v : Result (Unit {0}) TupleFault) (r : Result ℕ FetchRefusal) → unnumbered (result_map_both (λ z. in_row n v) (λ e. e) r) ≡ result_map_both (λ z. v) (λ e. e) r
@@ -34,7 +34,7 @@ unnumbered_is n (Err f) (Err e) = refl
 
 module _ {M : ℕ} {m : Meaning} (laws : Laws M m) (cs ds : List Cell) (b c : ℕ) (clear-b : Clear m cs b) (clear-c : Clear m ds c) (same : drop b cs ≡ drop c ds) where
   same_settings : {x y : Row} → Moved b c x y → {z w : Row} → Moved b c z w → is_settings m cs x z ≡ is_settings m ds y w
-  same_settings v u = λ i. stands_too laws cs ds b c same u i && (eqb (u.tag i) 15 && ((eqb (u.kind i) (v.kind i) && eqb (u.id i) (v.id i)) && is_some (counter_in (same_body laws cs ds b c same u i))))
+  same_settings v u = grind (arith, common_steps, stands_too, same_body)
 
   -- the rows before x that are settings for it, ahead of the boundary and behind it
   abbrev parts : List Cell → ℕ → Row → List Row → List Row
@@ -53,10 +53,7 @@ module _ {M : ℕ} {m : Meaning} (laws : Laws M m) (cs ds : List Cell) (b c : �
       (All-weaker (λ r. ltb r.place a ≡ true) (λ r. r.place < a) (λ r e. ltb-true r.place a e) (ahead a (listing m es)) (kept_by_passes (λ r. ltb r.place a) (listing m es))))
 
   before_both : (p q d : ℕ) → p ≡ b + d → q ≡ c + d → (x y : Row) → Moved b c x y → ltb x.place p ≡ ltb y.place q
-  before_both p q d e f x y v = elim (cases_lt x.place p) [
-    | inl l ↦ lt-ltb x.place p l ∙ sym (lt-ltb y.place q (omega (arith, v.from, v.to)))
-    | inr l ↦ le-ltb x.place p l ∙ sym (le-ltb y.place q (omega (arith, v.from, v.to)))
-  ]
+  before_both p q d e f x y v = grind (arith, common_steps)
 
   -- settings that begin at the boundary or later are there in both
   same_governing : (x y : Row) (v : Moved b c x y) (g : Row) → last (parts cs x.place x (listing m cs)) ≡ Some g → b ≤ g.place
@@ -104,12 +101,10 @@ module _ {M : ℕ} {m : Meaning} (laws : Laws M m) (cs ds : List Cell) (b c : �
             λ i. cond (needs_settings (moved.tag i)) (p i) (Some Without)
 
     same_judged : judged m cs (take n s.table) (row_of s n) ≡ judged m ds (take k t.table) (row_of t k)
-    same_judged = λ i. tuple_of (moved.tag i) (same_settled i) (same_body laws cs ds b c same moved i)
+    same_judged = grind (arith, common_steps, moved, same_settled, same_body)
 
     same_fetch : (buffer : List ℕ) → fetching m cs n buffer s ≡ fetching m ds k buffer t
-    same_fetch buffer = fetch_held laws cs s f n hn buffer
-        ∙ (λ i. cond (ltb (length buffer) (moved.long i)) (Err ShortBuffer, buffer) (Ok (moved.long i), same_bytes laws cs ds b c same moved i ++ drop (moved.long i) buffer))
-        ∙ sym (fetch_held laws ds t g k hk buffer)
+    same_fetch buffer = grind (arith, common_steps, fetch_held, moved, same_bytes)
 
     pub alike : Alike m cs ds s t n k
     alike = record {

@@ -1,5 +1,5 @@
 -- How a scan comes along the listing.
-use Rattle.std.proofs.Common.{◌≡◌, ℕ, ◌+◌, ◌<◌, ◌≤◌, ltb, List, [], ◌∷◌, ◌++◌, length, take, drop, Some, None, sym, refl, ap, ◌∙◌, inl, inr, append-nil, arith, length-drop, take-append-drop, length-take, drop-drop, take-add}
+use Rattle.std.proofs.Common.{◌≡◌, ℕ, ◌+◌, ◌<◌, ◌≤◌, List, [], ◌∷◌, ◌++◌, length, take, drop, Some, None, sym, refl, ap, ◌∙◌, inl, inr, append-nil, arith, length-drop, take-append-drop, length-take, drop-drop, take-add}
 use Rattle.std.specs.List.{AllByRecursion}
 use Rattle.std.proofs.lemmas.Bool.{lt-ltb, le-ltb, cases_lt}
 use Rattle.std.proofs.lemmas.List.Elements.{filter-append}
@@ -12,6 +12,7 @@ use Rattle.indexfile.specs.Files.{lengths}
 use Rattle.listing.specs.Listing.{row_at, listing, ahead, EndsBy, Along}
 use Rattle.listing.proofs.Lists.{Lists, at_end, at_cell, at_record, rows_cell, rows_record, lists_from, from_lists}
 use Rattle.listing.proofs.Boundaries.{ahead_none}
+use Rattle.std.proofs.lemmas.Grind.{common_steps}
 
 lengths_append : (r s : List Row) → lengths (r ++ s) ≡ lengths r + lengths s
 lengths_append [] s = omega arith
@@ -23,7 +24,7 @@ ahead_later a b l [] = refl
 ahead_later a b l (r ∷ rows) = elim (cases_lt r.place a) [ inl h ↦ rw (lt-ltb r.place a h) (rw (lt-ltb r.place b (omega arith)) (ap (λ z. r ∷ z) (ahead_later a b l rows))) | inr h ↦ rw (le-ltb r.place a h) (ahead_later a b l rows) ]
 
 split_there : {m : Meaning} {cs : List Cell} {p : ℕ} (front : List Row) {rest : List Row} → Lists m cs p rest → ahead p front ≡ front → front ≡ ahead p (front ++ rest)
-split_there {p = p} front {rest} r e = sym (filter-append (λ x. ltb x.place p) front rest ∙ rw (e, ahead_none r p (omega arith)) (append-nil front))
+split_there {p = p} front {rest} r e = grind (arith, common_steps, filter-append, ahead_none, append-nil)
 
 rows_long : {M : ℕ} {m : Meaning} → Laws M m → {cs : List Cell} {p : ℕ} {rows : List Row} → Lists m cs p rows → AllByRecursion (λ r. 1 ≤ r.length) rows
 rows_long laws (at_end h) = tt
@@ -78,12 +79,10 @@ module _ {M : ℕ} {m : Meaning} (laws : Laws M m) (cs : List Cell) where
       next_rows = let t = rows_record laws cs ahead_now x e in rw (after_row t.0 t.1) at t.2
 
       pub one_more : take (r + 1) (listing m cs) ≡ take r (listing m cs) ++ row_at p x ∷ []
-      one_more = take-add r 1 (listing m cs) ∙ ap (λ z. take r (listing m cs) ++ take 1 z) next_row
+      one_more = grind (arith, common_steps, take-add, next_row)
 
       still_more : ahead (p + x.length) (take (r + 1) (listing m cs)) ≡ take (r + 1) (listing m cs)
-      still_more =
-          let l : p < p + x.length = omega (arith, laws.inside cs p x e) in
-          rw one_more (filter-append (λ z. ltb z.place (p + x.length)) (take r (listing m cs)) (row_at p x ∷ []) ∙ rw (still (p + x.length) (omega arith), lt-ltb p (p + x.length) l))
+      still_more = grind (arith, common_steps, one_more, filter-append, still, lt-ltb)
 
       pub along_record : Along m cs (p + x.length) s (r + 1)
       along_record = record {

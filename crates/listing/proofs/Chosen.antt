@@ -7,6 +7,7 @@ use Rattle.indexfile.specs.declared.row.Row.{Row}
 use Rattle.records.specs.Records.{Meaning, Laws}
 use Rattle.listing.specs.Listing.{row_at, listing, listed_at, Covered, Chooses}
 use Rattle.listing.proofs.Lists.{Lists, at_end, at_cell, at_record, lists_from}
+use Rattle.std.proofs.lemmas.Grind.{common_steps}
 
 -- a listed place is at the start or later, and a record stands there
 pub listed_late : {m : Meaning} {cs : List Cell} {p : ℕ} {rows : List Row} → Lists m cs p rows → (q : ℕ) → listed_at rows q ≡ true → p ≤ q
@@ -58,14 +59,7 @@ module _ {M : ℕ} {m : Meaning} (laws : Laws M m) (cs : List Cell) where
 
 -- there is one such set
 leads : {m : Meaning} {cs : List Cell} {f g : ℕ → Bool} → Chooses m cs f → Chooses m cs g → (p : ℕ) → ((q : ℕ) → q < p → f q ≡ g q) → f p ≡ true → g p ≡ true
-leads {g = g} F G p same t = elim (cases_Bool (g p)) [ inl u ↦ u | inr u ↦ absurd (never u) ]
-  where
-    never : g p ≡ false → ⊥
-    never u =
-        let (x, e) = F.stands p t in
-        let c = (G.left_out p x e).0 u in
-        let b = (F.left_out p x e).1 (c.0, c.1, same c.0 c.4 ∙ c.2, c.3, c.4, c.5) in
-        both_ways _ b t
+leads {g = g} F G p same t = grind (arith, common_steps)
 
 pub chosen_one : {m : Meaning} {cs : List Cell} {f g : ℕ → Bool} → Chooses m cs f → Chooses m cs g → (p : ℕ) → f p ≡ g p
 chosen_one {f = f} {g = g} F G p = below (suc p) p (omega arith)

@@ -1,37 +1,28 @@
 -- The search for a record that crosses a boundary.
-use Rattle.std.proofs.Common.{◌≡◌, ℕ, zero, suc, ◌+◌, ◌-◌, ◌<◌, ◌≤◌, true, false, List, Some, None, Option, sym, refl, ap, ◌∙◌, add-one, arith, le-ltb}
+use Rattle.std.proofs.Common.{◌≡◌, ℕ, zero, suc, ◌+◌, ◌-◌, ◌<◌, ◌≤◌, true, false, List, Some, None, sym, refl, ap, ◌∙◌, add-one, arith}
 use Rattle.recording.specs.declared.Cell.{Cell}
-use Rattle.records.specs.declared.kind.Record.{Record}
-use Rattle.listing.specs.declared.answer.Cleared.TheVariants.{Yes, Crossed}
 use Rattle.records.specs.Records.{Meaning, Laws}
 use Rattle.listing.specs.Clearing.{ends_after, first_crossing}
+use Rattle.std.proofs.lemmas.Grind.{common_steps}
 
 module _ (m : Meaning) (cs : List Cell) (b : ℕ) where
-  pub none_left : (n p : ℕ) → n ≡ 0 → first_crossing m cs b n p ≡ Yes
+  pub none_left : (n p : ℕ) → n ≡ 0 → first_crossing m cs b n p ≡ None
   unfolding first_crossing
   none_left zero p z = refl
   none_left (suc n) p z = absurd (omega arith)
 
-  pub here : (n p : ℕ) → 0 < n → ends_after b p (m cs p) ≡ true → first_crossing m cs b n p ≡ Crossed p
+  pub here : (n p : ℕ) → 0 < n → ends_after b p (m cs p) ≡ true → first_crossing m cs b n p ≡ Some p
   unfolding first_crossing
   here zero p z e = absurd (omega arith)
   here (suc n) p z e = rw e
 
   pub past : (p : ℕ) → ends_after b p (m cs p) ≡ false → first_crossing m cs b (b - p) p ≡ first_crossing m cs b (b - (p + 1)) (p + 1)
   unfolding first_crossing
-  past p e = go (b - p) refl
-    where
-      go : (n : ℕ) → b - p ≡ n → first_crossing m cs b n p ≡ first_crossing m cs b (b - (p + 1)) (p + 1)
-      go zero z = sym (none_left (b - (p + 1)) (p + 1) (omega arith))
-      go (suc n) z = let same : n ≡ b - (p + 1) = omega arith in let one : first_crossing m cs b (suc n) p ≡ first_crossing m cs b n (p + 1) = rw e in one ∙ ap (λ k. first_crossing m cs b k (p + 1)) same
+  past p e = grind (arith, common_steps)
 
   module _ {M : ℕ} (laws : Laws M m) where
     too_early : (p : ℕ) → p + M ≤ b → ends_after b p (m cs p) ≡ false
-    too_early p h = go (m cs p) refl
-      where
-        go : (o : Option Record) → m cs p ≡ o → ends_after b p o ≡ false
-        go None _ = refl
-        go (Some x) e = let l = laws.inside cs p x e in le-ltb b (p + x.length) (omega arith)
+    too_early p h = grind (arith, common_steps)
 
     -- no record that begins before the last M - 1 places reaches over the boundary
     pub late : (from : ℕ) → ((q : ℕ) → q < from → q + M ≤ b) → first_crossing m cs b (b - from) from ≡ first_crossing m cs b b 0

@@ -1,7 +1,7 @@
 -- Cells, and a copy of their bytes.
-use Rattle.std.proofs.Common.{◌≡◌, ℕ, zero, suc, ◌+◌, ◌-◌, ◌<◌, ◌≤◌, List, [], ◌∷◌, ◌++◌, map, length, get_or, take, drop, set, sym, refl, ap, ◌∙◌, append_assoc, add-one, arith, length-drop, length-take, get_or-drop, drop-cons}
+use Rattle.std.proofs.Common.{◌≡◌, ℕ, zero, suc, ◌+◌, ◌<◌, List, [], ◌∷◌, ◌++◌, map, length, get_or, take, drop, set, sym, refl, ap, ◌∙◌, append_assoc, add-one, arith, length-drop, length-take, get_or-drop, drop-cons}
 use lib.ListN.{length-map}
-use Rattle.std.proofs.lemmas.List.{map_more, set_at, take_at}
+use Rattle.std.proofs.lemmas.List.{map_more, set_at}
 use Rattle.recording.specs.declared.Cell.{Cell}
 use Rattle.recording.specs.declared.Cell.TheVariants.{Lost}
 use Rattle.recording.specs.Cells.{cell_at}
@@ -26,10 +26,3 @@ pub copied_more : (cs : List Cell) (p : ℕ) (buffer : List ℕ) (i b : ℕ) →
 copied_more cs p buffer i b lc lb e =
     let read : b ≡ byte_of (get_or (drop p cs) i Lost) = e ∙ byte_in_lem cs (p + i) ∙ ap byte_of (sym (get_or-drop p cs i Lost)) in
     ap (set (bytes_at cs p i ++ drop i buffer) i) read ∙ front_more byte_of (drop p cs) buffer i Lost 0 (simp length-drop (omega arith)) lb
-
--- the cells copied, out of a buffer that may be longer
-pub front : (cs : List Cell) (p n : ℕ) (rest : List ℕ) → p + n ≤ length cs → take (n - 0) (bytes_at cs p n ++ rest) ≡ bytes_at cs p n
-front cs p n rest h =
-    let long : length (bytes_at cs p n) ≡ n = simp (length-map, length-take, length-drop) (omega arith) in
-    let z : n - 0 ≡ n = omega arith in
-    ap (λ k. take k (bytes_at cs p n ++ rest)) z ∙ take_at (bytes_at cs p n) rest n long

@@ -1,8 +1,6 @@
 -- What a fetch that is not refused leaves in the buffer.
-use Rattle.std.proofs.Common.{◌≡◌, ℕ, ◌-◌, ◌≤◌, Bool, true, false, cond, ltb, leb, List, ◌++◌, length, get_or, take, drop, Ok, Err, Result, refl, ap, ◌∙◌, inl, inr, arith, length-drop, length-take}
+use Rattle.std.proofs.Common.{◌≡◌, ℕ, ◌-◌, Bool, true, false, cond, ltb, List, ◌++◌, length, get_or, take, drop, Ok, Err, Result, refl, ap, ◌∙◌, arith, length-drop, length-take}
 use lib.ListN.{length-map}
-use lib.Seq.{take-append-le, drop-append-le}
-use Rattle.std.proofs.lemmas.Bool.{ltb-false, cases_lt}
 use Rattle.recording.specs.declared.Cell.{Cell}
 use Rattle.indexfile.specs.declared.row.Row.{Row}
 use Rattle.listing.specs.declared.answer.FetchRefusal.{FetchRefusal}
@@ -13,6 +11,7 @@ use Rattle.indexfile.specs.Written.{no_row}
 use Rattle.listing.specs.Fetching.{bytes_at, standing, fetching}
 use Rattle.listing.specs.Settling.{body}
 use Rattle.listing.proofs.Inside.{row_inside}
+use Rattle.std.proofs.lemmas.Grind.{common_steps}
 
 -- the four tests of a fetch
 abbrev answers : (n : ℕ) (out buffer : List ℕ) → (a b c d : Bool) → Result ℕ FetchRefusal × List ℕ
@@ -26,13 +25,7 @@ welcome k n out buffer false false true true e = let z : ◌≡◌ {A = ℕ} 0 1
 welcome k n out buffer false false true false e = (refl, refl, (cc), refl)
 
 front_body : (xs rest : List ℕ) (n : ℕ) → length xs ≡ n → take (n - 16) (drop 14 (xs ++ rest)) ≡ take (n - 16) (drop 14 xs)
-front_body xs rest n e = elim (cases_lt n 16) [ inl l ↦ none (omega arith) | inr l ↦ some (omega arith) (simp length-drop (omega arith)) ]
-  where
-    none : n - 16 ≡ 0 → take (n - 16) (drop 14 (xs ++ rest)) ≡ take (n - 16) (drop 14 xs)
-    none z = rw z
-
-    some : 14 ≤ length xs → n - 16 ≤ length (drop 14 xs) → take (n - 16) (drop 14 (xs ++ rest)) ≡ take (n - 16) (drop 14 xs)
-    some h i = ap (take (n - 16)) (drop-append-le 14 xs rest h) ∙ take-append-le (n - 16) (drop 14 xs) rest i
+front_body xs rest n e = grind (arith, common_steps)
 
 module _ {M : ℕ} {m : Meaning} (laws : Laws M m) (cs : List Cell) (i : ℕ) (buffer : List ℕ) (s : Progress) (n : ℕ) (e : Ok n ≡ (fetching m cs i buffer s).0) where
   abbrev y : Row
@@ -42,13 +35,10 @@ module _ {M : ℕ} {m : Meaning} (laws : Laws M m) (cs : List Cell) (i : ℕ) (b
   Facts = (standing (m cs y.place) y ≡ true) × (ltb (length buffer) y.length ≡ false) × (n ≡ y.length) × ((fetching m cs i buffer s).1 ≡ bytes_at cs y.place y.length ++ drop y.length buffer)
 
   facts : Facts
-  facts = welcome n y.length (bytes_at cs y.place y.length ++ drop y.length buffer) buffer (ltb (length s.table) s.rows) (leb s.rows i) (standing (m cs y.place) y) (ltb (length buffer) y.length) e
+  facts = grind (arith, common_steps)
 
   long : length (bytes_at cs y.place y.length) ≡ y.length
   long = simp (length-map, length-take, length-drop) (omega (arith, row_inside laws cs y facts.0))
-
-  pub fits : (after : List ℕ) → length after ≡ length buffer → n ≤ length after
-  fits after l = omega (arith, ltb-false (length buffer) y.length facts.1, facts.2)
 
   pub body_there : (after : List ℕ) → after ≡ (fetching m cs i buffer s).1 → take (n - 16) (drop 14 after) ≡ body cs y
   body_there after l =

@@ -1,9 +1,8 @@
 -- The rows that an index along the listing holds, and what the calls that name a row answer.
-use Rattle.std.proofs.Common.{◌≡◌, ℕ, zero, suc, ◌+◌, ◌*◌, ◌<◌, ◌≤◌, min, Bool, true, false, cond, ◌&&◌, ltb, leb, List, ◌++◌, length, get_or, take, drop, Some, Ok, Err, sym, refl, ap, ◌∙◌, arith, length-take, get_or-take}
+use Rattle.std.proofs.Common.{◌≡◌, ℕ, zero, suc, ◌+◌, ◌*◌, ◌<◌, ◌≤◌, min, Bool, true, false, cond, ◌&&◌, ltb, leb, List, ◌++◌, length, take, drop, Some, Ok, Err, sym, refl, ap, ◌∙◌, arith, length-take}
 use Rattle.std.specs.List.{AllByRecursion}
 use Rattle.std.specs.Option.{ok_or}
-use Rattle.std.specs.Result.{result_map_both}
-use Rattle.std.proofs.lemmas.Bool.{lt-ltb, le-ltb, le-leb, lt-leb, eq-eqb, and_from}
+use Rattle.std.proofs.lemmas.Bool.{lt-ltb, le-leb, lt-leb, eq-eqb, and_from}
 use Rattle.std.proofs.ByRecursion.{All-get_or}
 use Rattle.std.proofs.lemmas.List.{take-take}
 use Rattle.recording.specs.declared.Cell.{Cell}
@@ -13,18 +12,18 @@ use Rattle.indexfile.specs.declared.row.Row.{Row}
 use Rattle.indexfile.specs.declared.refusal.WriteRefusal.TheVariants as write
 use Rattle.indexfile.specs.Written.{no_row}
 use Rattle.indexfile.specs.Files.{lengths, in_order, sound_rows, file_of, writing}
-use Rattle.listing.specs.declared.answer.FetchRefusal.TheVariants as fetch
 use Rattle.listing.specs.declared.answer.SettleRefusal.TheVariants as settle
 use Rattle.listing.specs.declared.answer.SaveRefusal.TheVariants as save
 use Rattle.listing.specs.Listing.{row_at, listing, ahead, EndsBy, Standing, Along}
 use Rattle.listing.specs.Progress.{Progress, held}
 use Rattle.listing.specs.Fetching.{standing, row_of, filled, fetching}
-use Rattle.listing.specs.Settling.{settled, settling, in_row, judged}
+use Rattle.listing.specs.Settling.{settled, settling}
 use Rattle.listing.specs.Saving.{saved, saving}
 use Rattle.listing.specs.Promise.{listed, earlier, Holds, Lacks}
 use Rattle.listing.proofs.Lists.{Lists, at_end, at_cell, at_record, lists_from}
 use Rattle.listing.proofs.Table.{rows_made, rows_ordered}
 use Rattle.listing.proofs.Moved.{earlier_rows}
+use Rattle.std.proofs.lemmas.Grind.{common_steps}
 
 -- an index along the listing, whose rows held are the listing's first
 pub record Faithful (m : Meaning) (cs : List Cell) (s : Progress) : Type 0 where
@@ -33,7 +32,7 @@ pub record Faithful (m : Meaning) (cs : List Cell) (s : Progress) : Type 0 where
   pub room : s.rows ≤ min (length s.table) 65536
 
 standing_row : (p : ℕ) (x : Record) → standing (Some x) (row_at p x) ≡ true
-standing_row p x = rw (eq-eqb p p refl, eq-eqb x.length x.length refl, eq-eqb x.tag x.tag refl, eq-eqb x.source_type x.source_type refl, eq-eqb x.source_id x.source_id refl, eq-eqb x.time x.time refl)
+standing_row p x = grind (arith, common_steps)
 
 -- rows of the listing that end by the place q
 rows_in_order : {M : ℕ} {m : Meaning} → Laws M m → {cs : List Cell} {p : ℕ} {rows : List Row} → Lists m cs p rows → (q n e : ℕ) → e ≤ p → AllByRecursion (EndsBy q) (take n rows) → in_order q e (take n rows) ≡ true
@@ -53,11 +52,11 @@ saved_cond false n out buffer = refl
 module _ {M : ℕ} {m : Meaning} (laws : Laws M m) (cs : List Cell) (s : Progress) (f : Faithful m cs s) where
   -- no call finds the table too short
   pub roomy : ltb (length s.table) s.rows ≡ false
-  roomy = le-ltb (length s.table) s.rows (omega (arith, f.room))
+  roomy = grind (arith, common_steps)
 
   module _ (n : ℕ) (h : n < s.rows) where
     row_is : row_of s n ≡ listed m cs n
-    row_is = sym (get_or-take s.rows s.table n no_row h) ∙ ap (λ z. get_or z n no_row) f.same ∙ get_or-take s.rows (listing m cs) n no_row h
+    row_is = grind (arith, common_steps)
 
     pub row_made : Standing m cs (row_of s n)
     row_made = rw row_is (All-get_or (Standing m cs) (listing m cs) n no_row (omega (arith, f.along.found)) (rows_made (lists_from laws cs 0)))
@@ -72,9 +71,7 @@ module _ {M : ℕ} {m : Meaning} (laws : Laws M m) (cs : List Cell) (s : Progres
     rows_before = before ∙ sym (ap (λ z. ahead z.place (listing m cs)) row_is)
 
     row_stands : standing (m cs (row_of s n).place) (row_of s n) ≡ true
-    row_stands =
-        let (x, e, r) = row_made in
-        ap (λ o. standing o (row_of s n)) e ∙ ap (standing (Some x)) r ∙ standing_row (row_of s n).place x
+    row_stands = grind (arith, common_steps, row_made, standing_row)
 
     pub settle_held : settling m cs n s ≡ ok_or (settled m cs (take n s.table) (row_of s n)) settle.NoSettings
     settle_held = rw (roomy, lt-leb s.rows n h, row_stands)
@@ -83,21 +80,10 @@ module _ {M : ℕ} {m : Meaning} (laws : Laws M m) (cs : List Cell) (s : Progres
     fetch_held buffer = rw (roomy, lt-leb s.rows n h, row_stands)
 
     pub holds : Holds m cs s n
-    holds = record {
-      fetches = λ buffer. fetch_held buffer ∙ ap (λ y. filled cs y buffer) row_is;
-      settles = settle_held ∙ (λ i. ok_or (settled m cs (before i) (row_is i)) settle.NoSettings);
-      inspects = λ buffer. let e = fetch_held buffer ∙ ap (λ y. filled cs y buffer) row_is in (λ i. (result_map_both (λ k. in_row n (judged m cs (before i) (row_is i))) (λ e. e) (e i).0, (e i).1));
-    }
+    holds = grind (arith, common_steps, fetch_held, row_is, settle_held, before)
 
   pub lacks : (n : ℕ) → s.rows ≤ n → Lacks m cs s n
-  lacks n h = record {
-    fetches = λ buffer. no_fetch buffer;
-    settles = rw (roomy, le-leb s.rows n h);
-    inspects = λ buffer. let e = no_fetch buffer in (λ i. (result_map_both (λ k. in_row n (judged m cs (take n s.table) (row_of s n))) (λ e. e) (e i).0, (e i).1));
-  }
-    where
-      no_fetch : (buffer : List ℕ) → fetching m cs n buffer s ≡ (Err fetch.RowNotHeld, buffer)
-      no_fetch buffer = rw (roomy, le-leb s.rows n h)
+  lacks n h = grind (arith, common_steps)
 
   -- the rows held make a sound file
   sound : sound_rows s.place s.skipped (take s.rows (listing m cs)) ≡ true

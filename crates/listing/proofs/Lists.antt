@@ -1,11 +1,12 @@
 -- The listing as a relation, for induction: `Lists m cs p rows` says that the rows are those from the place p on.
 use Rattle.std.proofs.Common.{◌≡◌, ℕ, zero, suc, ◌+◌, ◌<◌, ◌≤◌, List, [], ◌∷◌, length, Some, None, Option, sym, refl, ap, ◌∙◌, inl, inr, arith}
-use Rattle.std.proofs.lemmas.Bool.{lt-ltb, le-ltb, cases_lt}
+use Rattle.std.proofs.lemmas.Bool.{le-ltb, cases_lt}
 use Rattle.recording.specs.declared.Cell.{Cell}
 use Rattle.records.specs.declared.kind.Record.{Record}
 use Rattle.indexfile.specs.declared.row.Row.{Row}
 use Rattle.records.specs.Records.{Meaning, Laws}
 use Rattle.listing.specs.Listing.{row_at, turns, listing_from}
+use Rattle.std.proofs.lemmas.Grind.{common_steps}
 
 pub data Lists (m : Meaning) (cs : List Cell) : ℕ → List Row → Type 0 where
   at_end : {p : ℕ} → length cs ≤ p → Lists m cs p []
@@ -20,11 +21,11 @@ turn_end m cs (suc n) p h = rw (le-ltb p (length cs) h, turns)
 
 pub turn_cell : (m : Meaning) (cs : List Cell) (n p : ℕ) → p < length cs → m cs p ≡ None → turns m cs (suc n) p ≡ turns m cs n (p + 1)
 unfolding turns
-turn_cell m cs n p h e = rw (lt-ltb p (length cs) h, turns) (rw e)
+turn_cell m cs n p h e = grind (arith, common_steps)
 
 pub turn_record : (m : Meaning) (cs : List Cell) (n p : ℕ) (x : Record) → p < length cs → m cs p ≡ Some x → turns m cs (suc n) p ≡ row_at p x ∷ turns m cs n (p + x.length)
 unfolding turns
-turn_record m cs n p x h e = rw (lt-ltb p (length cs) h, turns) (rw e)
+turn_record m cs n p x h e = grind (arith, common_steps)
 
 module _ {M : ℕ} {m : Meaning} (laws : Laws M m) (cs : List Cell) where
   pub turns_list : (n p : ℕ) → length cs ≤ p + n → Lists m cs p (turns m cs n p)

@@ -7,6 +7,7 @@ use Rattle.records.specs.declared.kind.Record.{Record}
 use Rattle.records.specs.Records.{Meaning, Laws, run}
 use Rattle.listing.specs.Listing.{Clear}
 use Rattle.listing.specs.Promise.{before}
+use Rattle.std.proofs.lemmas.Grind.{common_steps}
 
 before_is : (cs : List Cell) (b i p : ℕ) → i ≤ b → b - i ≡ p → before cs b i ≡ get_or cs p Lost
 before_is cs b i p l e = rw (le-ltb b i l, e)
@@ -55,7 +56,7 @@ module _ {M : ℕ} {m : Meaning} (laws : Laws M m) (cs ds : List Cell) (b c : �
         there j h = simp (get_or-take, get_or-drop, h) (cell j)
 
     crosses : (b - k < b) × (m cs (b - k) ≡ Some x) × (b < b - k + x.length)
-    crosses = (omega (arith, as_far), laws.moves ds p x e cs (b - k) same_run, omega (arith, as_far))
+    crosses = grind (arith, common_steps, as_far, same_run)
 
   pub clear_there : Clear m cs b → Clear m ds c
   clear_there clear = record { within = in-ds; uncrossed = λ p x e l. elim (cases_lt c (p + x.length)) [ inl s ↦ absurd (never p x e l s) | inr s ↦ s ] }

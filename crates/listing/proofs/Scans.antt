@@ -1,11 +1,12 @@
 -- The turns of a scan.
-use Rattle.std.proofs.Common.{◌≡◌, ℕ, zero, suc, ◌+◌, ◌-◌, ◌<◌, ◌≤◌, cond, List, length, ap, ◌∙◌, arith, le-leb}
+use Rattle.std.proofs.Common.{◌≡◌, ℕ, zero, suc, ◌+◌, ◌-◌, ◌<◌, ◌≤◌, cond, List, length, arith, le-leb}
 use borrow.Author.Tests.{lt-leb}
 use Rattle.recording.specs.declared.Cell.{Cell}
 use Rattle.records.specs.Records.{Meaning}
 use Rattle.listing.specs.declared.answer.Stop.TheVariants.{Ended, Spent, Full}
 use Rattle.listing.specs.Progress.{Progress}
 use Rattle.listing.specs.Scanning.{turned, outcome, scanned}
+use Rattle.std.proofs.lemmas.Grind.{common_steps}
 
 module _ (m : Meaning) (cs : List Cell) where
   pub ended : (n k : ℕ) (s : Progress) → length cs ≤ s.place → scanned m cs n k s ≡ outcome Ended k s
@@ -21,7 +22,4 @@ module _ (m : Meaning) (cs : List Cell) where
   -- one turn more, with k of n tests made
   pub turn_more : (n k : ℕ) (s : Progress) → k < n → s.place < length cs → scanned m cs (n - k) k s ≡ cond (turned (m cs s.place) s).0 (scanned m cs (n - (k + 1)) (k + 1) (turned (m cs s.place) s).1) (outcome Full (k + 1) (turned (m cs s.place) s).1)
   unfolding scanned
-  turn_more n k s lt h =
-      let more : n - k ≡ suc (n - (k + 1)) = omega arith in
-      let one : scanned m cs (suc (n - (k + 1))) k s ≡ cond (turned (m cs s.place) s).0 (scanned m cs (n - (k + 1)) (k + 1) (turned (m cs s.place) s).1) (outcome Full (k + 1) (turned (m cs s.place) s).1) = rw (lt-leb (length cs) s.place h) in
-      ap (λ j. scanned m cs j k s) more ∙ one
+  turn_more n k s lt h = grind (arith, common_steps)

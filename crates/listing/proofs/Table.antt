@@ -1,13 +1,14 @@
 -- The listing as a table: its rows in order, and no other table has what it has.
 use Rattle.std.proofs.Common.{◌≡◌, ℕ, suc, ◌<◌, ◌≤◌, true, false, eqb, ◌↔◌, List, [], ◌∷◌, sym, refl, ap, ◌∙◌, inl, inr, arith}
 use Rattle.std.specs.List.{AllByRecursion}
-use Rattle.std.proofs.lemmas.Bool.{eqb-true, eq-eqb, ne_eqb, or_cases, or_left, both_ways, cases_eq, cases_Bool}
+use Rattle.std.proofs.lemmas.Bool.{eqb-true, ne_eqb, or_cases, both_ways, cases_eq}
 use Rattle.recording.specs.declared.Cell.{Cell}
 use Rattle.indexfile.specs.declared.row.Row.{Row}
 use Rattle.records.specs.Records.{Meaning, Laws}
 use Rattle.listing.specs.Listing.{listing, listed_at, Standing, Ascending, Tabulates}
 use Rattle.listing.proofs.Lists.{Lists, at_end, at_cell, at_record, lists_from}
 use Rattle.listing.proofs.Chosen.{listing_chooses, chosen_one}
+use Rattle.std.proofs.lemmas.Grind.{common_steps}
 
 rows_late : {m : Meaning} {cs : List Cell} {p : ℕ} {rows : List Row} → Lists m cs p rows → (b : ℕ) → b ≤ p → AllByRecursion (λ r. b ≤ r.place) rows
 rows_late (at_end h) b l = tt
@@ -36,22 +37,17 @@ listed_from : (r : Row) (rows : List Row) → Ascending (r ∷ rows) → (p : �
 listed_from r rows h p e = elim (or_cases (eqb r.place p) (listed_at rows p) e) [ inl t ↦ omega (arith, eqb-true r.place p t) | inr t ↦ omega (arith, listed_after r.place rows h.0 p t) ]
 
 listed_first : (r : Row) (rows : List Row) → listed_at (r ∷ rows) r.place ≡ true
-listed_first r rows = or_left (eqb r.place r.place) (listed_at rows r.place) (eq-eqb r.place r.place refl)
+listed_first r rows = grind (arith, common_steps)
 
 listed_rest : (r : Row) (rows : List Row) (p : ℕ) → (r.place ≡ p → ⊥) → listed_at (r ∷ rows) p ≡ listed_at rows p
 listed_rest r rows p n = rw (ne_eqb r.place p n)
 
 not_again : (a : ℕ) (rows : List Row) → AllByRecursion (λ r. a < r.place) rows → listed_at rows a ≡ false
-not_again a rows h = elim (cases_Bool (listed_at rows a)) [ inl t ↦ absurd (omega (arith, listed_after a rows h a t)) | inr t ↦ t ]
+not_again a rows h = grind (arith, common_steps, listed_after)
 
 module _ (m : Meaning) (cs : List Cell) where
   one_row : (r s : Row) → Standing m cs r → Standing m cs s → r.place ≡ s.place → r ≡ s
-  one_row r s f g e =
-      let v : m cs r.place ≡ m cs s.place = ap (m cs) e in
-      let x = f.1 in
-      let y = g.1 in
-      let w : f.0 ≡ g.0 = cc in
-      f.2 ∙ rw (e, w) (sym g.2)
+  one_row r s f g e = grind (arith, common_steps)
 
   same_table : (rs ss : List Row) → AllByRecursion (Standing m cs) rs → AllByRecursion (Standing m cs) ss → Ascending rs → Ascending ss → ((p : ℕ) → listed_at rs p ≡ listed_at ss p) → rs ≡ ss
   same_table [] [] f g h i same = refl

@@ -1,6 +1,6 @@
 -- A scan goes along the listing, and so does every index that is visited.
-use Rattle.std.proofs.Common.{◌≡◌, ℕ, zero, suc, ◌+◌, ◌-◌, ◌<◌, ◌≤◌, min, List, [], ◌∷◌, ◌++◌, length, take, drop, set, Some, None, Err, Option, sym, refl, ap, ◌∙◌, subst, inl, inr, arith, length-set, take-append-drop, length-take, drop-drop, drop-set-lt}
-use Rattle.std.proofs.lemmas.Bool.{lt-ltb, le-ltb, lt-leb, cases_lt}
+use Rattle.std.proofs.Common.{◌≡◌, ℕ, zero, suc, ◌+◌, ◌-◌, ◌<◌, ◌≤◌, min, List, [], ◌∷◌, ◌++◌, length, take, drop, set, Some, None, Err, Option, sym, refl, ap, ◌∙◌, inl, inr, arith, length-set, length-take, drop-drop, drop-set-lt}
+use Rattle.std.proofs.lemmas.Bool.{lt-leb, cases_lt}
 use Rattle.std.proofs.lemmas.List.{take_more_set, drop_at}
 use Rattle.recording.specs.declared.Cell.{Cell}
 use Rattle.records.specs.declared.kind.Record.{Record}
@@ -22,6 +22,7 @@ use Rattle.listing.proofs.Scans.{ended, spent}
 use Rattle.listing.proofs.Clearness.{tells, past}
 use Rattle.listing.proofs.HeldRows.{Faithful, holds, lacks, saves}
 use Rattle.listing.proofs.Along.{along_start, along_few, along_cell, along_record, one_more}
+use Rattle.std.proofs.lemmas.Grind.{common_steps}
 
 abbrev skip : Progress → Progress
 skip s = at (s.place + 1) (s.skipped + 1) s.rows s.table
@@ -37,11 +38,11 @@ module _ (m : Meaning) (cs : List Cell) (n k : ℕ) (s : Progress) (h : s.place 
 
   step_row : (x : Record) → m cs s.place ≡ Some x → s.rows < min (length s.table) 65536 → scanned m cs (suc n) k s ≡ scanned m cs n (k + 1) (pass x s)
   unfolding scanned
-  step_row x e f = rw (lt-leb (length cs) s.place h, e, lt-ltb s.rows (min (length s.table) 65536) f)
+  step_row x e f = grind (arith, common_steps)
 
   step_full : (x : Record) → m cs s.place ≡ Some x → min (length s.table) 65536 ≤ s.rows → scanned m cs (suc n) k s ≡ outcome Full (k + 1) s
   unfolding scanned
-  step_full x e f = rw (lt-leb (length cs) s.place h, e, le-ltb s.rows (min (length s.table) 65536) f)
+  step_full x e f = grind (arith, common_steps)
 
 -- what n turns do, after k tests
 record Ran (m : Meaning) (cs : List Cell) (n k : ℕ) (s : Progress) (o : Outcome) : Type 0 where
@@ -56,13 +57,8 @@ record Ran (m : Meaning) (cs : List Cell) (n k : ℕ) (s : Progress) (o : Outcom
   pub why : Why m cs (k + n) o.tests o.left o.stop
 
 module _ {M : ℕ} {m : Meaning} (laws : Laws M m) (cs : List Cell) where
-  own_table : (s : Progress) → Faithful m cs s → s.table ≡ take s.rows (listing m cs) ++ drop s.rows s.table
-  own_table s f = sym (take-append-drop s.rows s.table) ∙ ap (λ z. z ++ drop s.rows s.table) f.same
-
   stops : (n k j : ℕ) (s : Progress) (t : Stop) → Faithful m cs s → j ≡ k + extra t → j ≤ k + n → Why m cs (k + n) j s t → Ran m cs n k s (outcome t j s)
-  stops n k j s t f e l w =
-      let none : j - (k + extra t) ≡ 0 = omega arith in
-      record { faithful = f; grows = omega arith; table = own_table s f; size = refl; tests = omega arith; made = omega arith; moves = sym (ap (λ i. moved m cs i s.place) none); spare = l; why = w }
+  stops n k j s t f e l w = grind (arith, common_steps)
 
   skips : (s : Progress) → Faithful m cs s → s.place < length cs → m cs s.place ≡ None → Faithful m cs (skip s)
   skips s f l e = record { along = along_cell laws cs f.along l e; same = f.same; room = f.room }
@@ -82,22 +78,10 @@ module _ {M : ℕ} {m : Meaning} (laws : Laws M m) (cs : List Cell) where
   -- the first test moves the place, and the others move it on
   moves_on : (k : ℕ) (s : Progress) (q : ℕ) (o : Outcome) → onward s.place (m cs s.place) ≡ q → k + 1 + extra o.stop ≤ o.tests
       → o.left.place ≡ moved m cs (o.tests - (k + 1 + extra o.stop)) q → o.left.place ≡ moved m cs (o.tests - (k + extra o.stop)) s.place
-  moves_on k s q o e l h =
-      let one : suc (o.tests - (k + 1 + extra o.stop)) ≡ o.tests - (k + extra o.stop) = omega arith in
-      h ∙ ap (moved m cs (o.tests - (k + 1 + extra o.stop))) (sym e) ∙ ap (λ i. moved m cs i s.place) one
+  moves_on k s q o e l h = grind (arith, common_steps)
 
   after_skip : (n k : ℕ) (s : Progress) (o : Outcome) → m cs s.place ≡ None → Ran m cs n (k + 1) (skip s) o → Ran m cs (suc n) k s o
-  after_skip n k s o e r = record {
-    faithful = r.faithful;
-    grows = r.grows;
-    table = r.table;
-    size = r.size;
-    tests = omega (arith, r.tests);
-    made = omega (arith, r.made);
-    moves = moves_on k s (s.place + 1) o (ap (onward s.place) e) r.made r.moves;
-    spare = omega (arith, r.spare);
-    why = why_later n k o o.stop r.why;
-  }
+  after_skip n k s o e r = grind (arith, common_steps)
 
   after_row : (n k : ℕ) (s : Progress) (x : Record) (o : Outcome) → m cs s.place ≡ Some x → Ran m cs n (k + 1) (pass x s) o → Ran m cs (suc n) k s o
   after_row n k s x o e r = record {
@@ -130,25 +114,17 @@ module _ {M : ℕ} {m : Meaning} (laws : Laws M m) (cs : List Cell) where
       ]
 
   goes : (budget : ℕ) (s : Progress) (o : Outcome) → Ran m cs budget 0 s o → Goes m cs budget s (record { stop = o.stop; tests = o.tests; added = o.left.rows - s.rows }) o.left
-  goes budget s o r = record {
-    along = r.faithful.along;
-    moves = let z : o.tests - (0 + extra o.stop) ≡ o.tests - extra o.stop = omega arith in r.moves ∙ ap (λ i. moved m cs i s.place) z;
-    rows = omega (arith, r.grows);
-    table = r.table;
-    tests = omega (arith, r.tests, r.grows);
-    spare = omega (arith, r.spare);
-    why = let z : 0 + budget ≡ budget = omega arith in subst (λ j. Why m cs j o.tests o.left o.stop) z r.why;
-  }
+  goes budget s o r = grind (arith, common_steps)
 
   -- the three ways of a call
   welcome : (budget : ℕ) (s : Progress) → Faithful m cs s → 1 ≤ budget → budget ≤ 65536 → scanning m cs budget s ≡ answer_to s (scanned m cs budget 0 s)
-  welcome budget s f l h = rw (le-ltb (length s.table) s.rows (omega (arith, f.room)), le-ltb budget 1 l, le-ltb 65536 budget h)
+  welcome budget s f l h = grind (arith, common_steps)
 
   too_few : (budget : ℕ) (s : Progress) → Faithful m cs s → budget ≡ 0 → scanning m cs budget s ≡ (Err WrongBudget, s)
-  too_few budget s f e = rw (le-ltb (length s.table) s.rows (omega (arith, f.room)), lt-ltb budget 1 (omega arith))
+  too_few budget s f e = grind (arith, common_steps)
 
   too_many : (budget : ℕ) (s : Progress) → Faithful m cs s → 65536 < budget → scanning m cs budget s ≡ (Err WrongBudget, s)
-  too_many budget s f h = rw (le-ltb (length s.table) s.rows (omega (arith, f.room)), le-ltb budget 1 (omega arith), lt-ltb 65536 budget h)
+  too_many budget s f h = grind (arith, common_steps)
 
   -- what all visits keep: the rows held, and the rest of the table as it was
   record Kept (table : List Row) (s : Progress) : Type 0 where
@@ -218,4 +194,4 @@ module _ {M : ℕ} {m : Meaning} (laws : Laws M m) (cs : List Cell) where
   faithful_after table vs = (kept_after table vs).faithful
 
   pub used : (table : List Row) (vs : List Visit) → Used m cs table (visited m cs vs (unused table))
-  used table vs = used_well table (visited m cs vs (unused table)) (kept_after table vs)
+  used table vs = grind (arith, common_steps, used_well, kept_after)

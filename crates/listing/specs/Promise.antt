@@ -91,7 +91,7 @@ pub record Used (m : Meaning) (cs : List Cell) (table : List Row) (s : Progress)
   -- a scan is refused for its budget alone, and then changes nothing; a welcome one goes along the listing
   pub scans : (budget : ℕ) → 1 ≤ budget → budget ≤ 65536 → (a : Scanned) × ((scanning m cs budget s).0 ≡ Ok a) × Goes m cs budget s a (scanning m cs budget s).1
   pub no_scan : (budget : ℕ) → (budget ≡ 0) ⊎ (65536 < budget) → (e : ScanRefusal) × (scanning m cs budget s ≡ (Err e, s)) × (scan_refusal e ≡ nowhere 1)
-  -- a clear is refused past the end alone; else it says yes exactly at a clear boundary, and names the lowest place of a record that crosses any other
+  -- a clear is refused past the end alone; else it names no place exactly at a clear boundary, and the lowest of a record that crosses any other
   pub clears : (b : ℕ) → Tells m cs b s (clearing m cs b s)
   pub no_clear : (b : ℕ) → length cs < b → (e : ClearRefusal) × (clearing m cs b s ≡ Err e) × (clear_refusal e ≡ nowhere 2)
   -- a row that is held is the listing's, and no call finds it amiss

@@ -13,8 +13,7 @@ use Rattle.indexfile.specs.declared.row.Row.{Row}
 use Rattle.listing.specs.declared.answer.FetchRefusal.{FetchRefusal}
 use Rattle.listing.specs.declared.answer.SettleRefusal.{SettleRefusal}
 use Rattle.listing.specs.declared.answer.SettleRefusal.TheVariants.{ShortTable, RowNotHeld, RowNotStanding, NoSettings}
-use Rattle.listing.specs.declared.answer.Inspected.{Inspected}
-use Rattle.listing.specs.declared.answer.Inspected.TheVariants.{Sound, Found}
+use Rattle.listing.specs.declared.answer.Finding.{Finding}
 use Rattle.listing.specs.Progress.{Progress}
 use Rattle.listing.specs.Fetching.{bytes_at, standing, row_of, fetching}
 
@@ -36,10 +35,10 @@ last [] = None
 last (x ∷ []) = Some x
 last (x ∷ y ∷ rows) = last (y ∷ rows)
 
--- a finding: the row's number, and inside it the tuple's fault
-abbrev pub in_row : ℕ → Result (Unit {0}) TupleFault → Inspected
-in_row i (Ok u) = Sound
-in_row i (Err f) = Found (record { row = i; fault = f })
+-- a finding, if there is a fault: the row's number, and inside it the tuple's fault
+abbrev pub in_row : ℕ → Result (Unit {0}) TupleFault → Option Finding
+in_row i (Ok u) = None
+in_row i (Err f) = Some (record { row = i; fault = f })
 
 module _ (m : Meaning) (cs : List Cell) where
   -- a row x is settings for y: it is its standing record, of type 15 and of y's head, and its body is sound
@@ -70,13 +69,13 @@ module _ (m : Meaning) (cs : List Cell) where
   judged earlier y = tuple_of y.tag (settled earlier y) (body cs y)
 
   -- a call: what a fetch does; where it is not refused, the tuple is sound or there is a finding
-  abbrev pub inspecting : ℕ → List ℕ → Progress → Result Inspected FetchRefusal × List ℕ
+  abbrev pub inspecting : ℕ → List ℕ → Progress → Result (Option Finding) FetchRefusal × List ℕ
   inspecting i buffer s = (result_map_both (λ n. in_row i (judged (take i s.table) (row_of s i))) (λ e. e) (fetching m cs i buffer s).0, (fetching m cs i buffer s).1)
 
 -- an inspection's answer but for the row's number
-abbrev pub found : Inspected → Result (Unit {0}) TupleFault
-found Sound = Ok tt
-found (Found f) = Err f.fault
+abbrev pub found : Option Finding → Result (Unit {0}) TupleFault
+found None = Ok tt
+found (Some f) = Err f.fault
 
-abbrev pub unnumbered : Result Inspected FetchRefusal → Result (Result (Unit {0}) TupleFault) FetchRefusal
+abbrev pub unnumbered : Result (Option Finding) FetchRefusal → Result (Result (Unit {0}) TupleFault) FetchRefusal
 unnumbered r = result_map_both found (λ e. e) r

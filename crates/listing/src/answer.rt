@@ -6,7 +6,7 @@ ghost use Rattle.listing.specs.Refusals.{scan_refusal, clear_refusal, fetch_refu
 use bodies::fault::TupleFault;
 use indexfile::refusal::WriteRefusal;
 use layouts::settings::Counter;
-use refusals::Refusal;
+use refusals::{Notice, Refusal};
 
 // Why a scan stopped: at the end, all its tests made, or a record found and no row free.
 #[derive(Clone, Copy, Debug, PartialEq, Eq)]
@@ -23,19 +23,13 @@ pub struct Scanned {
     pub added: u32,
 }
 
+// Each call has refusals of its own, so that no caller meets one that its call never gives.
 #[derive(Clone, Copy, Debug, PartialEq, Eq)]
 pub enum ScanRefusal {
     // The table is shorter than the rows held.
     ShortTable,
     // A budget is 1 to 65,536 tests.
     WrongBudget,
-}
-
-// Whether a boundary is clear, or else the lowest place of a record that crosses it.
-#[derive(Clone, Copy, Debug, PartialEq, Eq)]
-pub enum Cleared {
-    Yes,
-    Crossed(u32),
 }
 
 #[derive(Clone, Copy, Debug, PartialEq, Eq)]
@@ -77,12 +71,7 @@ pub struct Finding {
 }
 
 #[derive(Clone, Copy, Debug, PartialEq, Eq)]
-pub enum Inspected {
-    Sound,
-    Found(Finding),
-}
-
-#[derive(Clone, Copy, Debug, PartialEq, Eq)]
+// No Option: both cases are errors.
 pub enum SaveRefusal {
     // The table is shorter than the rows held.
     ShortTable,
@@ -100,13 +89,14 @@ pub enum Call {
     Save,
 }
 
+// A clear answers the lowest place of a record that crosses the boundary, if one does; an inspect what is wrong, if anything.
 #[derive(Clone, Copy, Debug)]
 pub enum Answer {
     Scan(Result<Scanned, ScanRefusal>),
-    Clear(Result<Cleared, ClearRefusal>),
+    Clear(Result<Option<u32>, ClearRefusal>),
     Fetch(Result<u32, FetchRefusal>),
     Settle(Result<Counter, SettleRefusal>),
-    Inspect(Result<Inspected, FetchRefusal>),
+    Inspect(Result<Option<Finding>, FetchRefusal>),
     Save(Result<u32, SaveRefusal>),
 }
 
@@ -129,79 +119,56 @@ impl Visit {
 impl Refusal for ScanRefusal {
     ghost told = { scan_refusal };
 
-    fn number(&self) -> u8 {
+    fn notice(&self) -> Notice {
         match self {
-            ScanRefusal::ShortTable => 25,
-            ScanRefusal::WrongBudget => 1,
+            ScanRefusal::ShortTable => Notice::nowhere(25),
+            ScanRefusal::WrongBudget => Notice::nowhere(1),
         }
-    }
-
-    fn place(&self) -> usize {
-        0
     }
 }
 
 impl Refusal for ClearRefusal {
     ghost told = { clear_refusal };
 
-    fn number(&self) -> u8 {
+    fn notice(&self) -> Notice {
         match self {
-            ClearRefusal::ShortTable => 25,
-            ClearRefusal::PastEnd => 2,
+            ClearRefusal::ShortTable => Notice::nowhere(25),
+            ClearRefusal::PastEnd => Notice::nowhere(2),
         }
-    }
-
-    fn place(&self) -> usize {
-        0
     }
 }
 
 impl Refusal for FetchRefusal {
     ghost told = { fetch_refusal };
 
-    fn number(&self) -> u8 {
+    fn notice(&self) -> Notice {
         match self {
-            FetchRefusal::ShortTable | FetchRefusal::RowNotStanding => 25,
-            FetchRefusal::RowNotHeld => 21,
-            FetchRefusal::ShortBuffer => 4,
+            FetchRefusal::ShortTable | FetchRefusal::RowNotStanding => Notice::nowhere(25),
+            FetchRefusal::RowNotHeld => Notice::nowhere(21),
+            FetchRefusal::ShortBuffer => Notice::nowhere(4),
         }
-    }
-
-    fn place(&self) -> usize {
-        0
     }
 }
 
 impl Refusal for SettleRefusal {
     ghost told = { settle_refusal };
 
-    fn number(&self) -> u8 {
+    fn notice(&self) -> Notice {
         match self {
-            SettleRefusal::ShortTable | SettleRefusal::RowNotStanding => 25,
-            SettleRefusal::RowNotHeld => 21,
-            SettleRefusal::NoSettings => 22,
+            SettleRefusal::ShortTable | SettleRefusal::RowNotStanding => Notice::nowhere(25),
+            SettleRefusal::RowNotHeld => Notice::nowhere(21),
+            SettleRefusal::NoSettings => Notice::nowhere(22),
         }
-    }
-
-    fn place(&self) -> usize {
-        0
     }
 }
 
 impl Refusal for SaveRefusal {
     ghost told = { save_refusal };
 
-    fn number(&self) -> u8 {
+    fn notice(&self) -> Notice {
         match self {
-            SaveRefusal::ShortTable => 25,
-            SaveRefusal::Unwritten(refusal) => refusal.number(),
-        }
-    }
-
-    fn place(&self) -> usize {
-        match self {
-            SaveRefusal::ShortTable => 0,
-            SaveRefusal::Unwritten(refusal) => refusal.place(),
+            SaveRefusal::ShortTable => Notice::nowhere(25),
+            SaveRefusal::Unwritten(refusal) => refusal.notice(),
         }
     }
 }
@@ -210,15 +177,12 @@ impl Refusal for SaveRefusal {
 impl Refusal for Finding {
     ghost told = { finding_told };
 
-    fn number(&self) -> u8 {
-        self.fault.number()
-    }
-
-    fn place(&self) -> usize {
-        self.fault.place()
+    fn notice(&self) -> Notice {
+        self.fault.notice()
     }
 }
 
+// A rule of the project keeps these by hand: contracts speak of the error that `?` makes.
 impl From<(u32, TupleFault)> for Finding {
     ghost from_gives = { λ x y. y ≡ finding x };
 

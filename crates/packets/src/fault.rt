@@ -1,7 +1,7 @@
 // What may be wrong with a body of pings or profiles.
 ghost use Rattle.packets.specs.Faults.{packet_fault};
 
-use refusals::Refusal;
+use refusals::{Notice, Refusal};
 
 #[derive(Clone, Copy, Debug, PartialEq, Eq)]
 pub enum PacketFault {
@@ -20,19 +20,11 @@ pub enum PacketFault {
 impl Refusal for PacketFault {
     ghost told = { packet_fault };
 
-    fn number(&self) -> u8 {
-        match self {
-            PacketFault::Length => 6,
-            PacketFault::HeaderSizeBytes(_) | PacketFault::DataType(_) => 9,
-            PacketFault::BitsPerSample | PacketFault::OddPing => 11,
-        }
-    }
-
-    fn place(&self) -> usize {
+    fn notice(&self) -> Notice {
         match *self {
-            PacketFault::Length => 0,
-            PacketFault::HeaderSizeBytes(at) | PacketFault::DataType(at) => at,
-            PacketFault::BitsPerSample | PacketFault::OddPing => 11,
+            PacketFault::Length => Notice::nowhere(6),
+            PacketFault::HeaderSizeBytes(at) | PacketFault::DataType(at) => Notice::at(9, at),
+            PacketFault::BitsPerSample | PacketFault::OddPing => Notice::at(11, 11),
         }
     }
 }

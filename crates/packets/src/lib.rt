@@ -1,9 +1,8 @@
 // Bodies of pings and profiles: sonar, profile, sonar and profile, multi sonar.
-#![tactic(auto)]
+#![tactic(auto, using(layouts::proofs::Numbers::number_read))]
 
 pub mod fault;
 pub mod multi;
-mod numbers;
 pub mod packet;
 pub mod pair;
 pub mod profile;

@@ -1,10 +1,11 @@
 // Packets: a header of 22 bytes and the data that it announces.
 ghost use Rattle.std.specs.Prelude.{◌≡◌, ◌+◌, ◌*◌, ◌≤◌, length};
-ghost use Rattle.packets.specs.Packets.{content_of, is_sonar, other, packet_at, packet_of, data_length, plain, counter_length, counter_of, counted, pings};
+ghost use Rattle.std.specs.Option.{ok_or};
+ghost use Rattle.packets.specs.Packets.{content_of, packet_at, packet_of, data_length, plain, counter_length, counter_of, counted, pings};
 ghost use Rattle.packets.specs.Parts.{parts_held, parts_at};
 
 use crate::fault::PacketFault;
-use crate::numbers::{run, word};
+use byteorder::{ByteOrder, LittleEndian};
 use layouts::settings::Counter;
 
 // What a packet holds: DataType 1 and 2 are sonar data, 3 and 4 profiles.
@@ -31,32 +32,20 @@ pub struct PacketParts<'a> {
     pub counters: &'a [u8],
 }
 
-fn content_of(data_type: u16) -> Option<Content>
-    ensures { result ≡ content_of data_type }
-{
-    match data_type {
-        1..=2 => Some(Content::Sonar),
-        3..=4 => Some(Content::Profile),
-        _ => None,
-    }
-}
+// A DataType that stands for neither.
+#[derive(Clone, Copy, Debug, PartialEq, Eq)]
+pub struct UnknownContent;
 
-impl Content {
-    pub(crate) fn is_sonar(self) -> bool
-        ensures { result ≡ is_sonar self }
-    {
-        match self {
-            Content::Sonar => true,
-            Content::Profile => false,
-        }
-    }
+impl TryFrom<u16> for Content {
+    type Error = UnknownContent;
 
-    pub(crate) fn other(self) -> Content
-        ensures { result ≡ other self }
-    {
-        match self {
-            Content::Sonar => Content::Profile,
-            Content::Profile => Content::Sonar,
+    ghost try_from_gives = { λ n r. r ≡ ok_or (content_of n) (record {}) };
+
+    fn try_from(data_type: u16) -> Result<Content, UnknownContent> {
+        match data_type {
+            1..=2 => Ok(Content::Sonar),
+            3..=4 => Ok(Content::Profile),
+            _ => Err(UnknownContent),
         }
     }
 }
@@ -64,19 +53,20 @@ impl Content {
 pub(crate) fn packet_at(body: &[u8], at: usize) -> Result<Packet, PacketFault>
     ensures { result ≡ packet_at body.now at }
 {
-    if at > body.len() || body.len() - at < 22 {
-        return Err(PacketFault::Length);
-    }
-    if word(body, at) != 22 {
+    let header = body
+        .get(at..)
+        .filter(|header| header.len() >= 22)
+        .ok_or(PacketFault::Length)?;
+    if LittleEndian::read_u16(header) != 22 {
         return Err(PacketFault::HeaderSizeBytes(at));
     }
-    let Some(content) = content_of(word(body, at + 2)) else {
+    let Ok(content) = Content::try_from(LittleEndian::read_u16(&header[2..])) else {
         return Err(PacketFault::DataType(at + 2));
     };
     Ok(Packet {
         content,
-        data_number: word(body, at + 4),
-        data_size_bytes: word(body, at + 6),
+        data_number: LittleEndian::read_u16(&header[4..]),
+        data_size_bytes: LittleEndian::read_u16(&header[6..]),
     })
 }
 
@@ -85,7 +75,7 @@ pub(crate) fn packet_of(content: Content, body: &[u8], at: usize) -> Result<Pack
     ensures { result ≡ packet_of content body.now at }
 {
     let packet = packet_at(body, at)?;
-    if packet.content.is_sonar() != content.is_sonar() {
+    if packet.content != content {
         return Err(PacketFault::DataType(at + 2));
     }
     Ok(packet)
@@ -156,8 +146,8 @@ pub(crate) fn parts_at(body: &[u8], at: usize, packet: Packet, counters: usize) 
 {
     PacketParts {
         packet,
-        header: run(body, at, 22),
-        data: run(body, at + 22, packet.data()),
-        counters: run(body, at + packet.plain(), counters),
+        header: &body[at..at + 22],
+        data: &body[at + 22..at + packet.plain()],
+        counters: &body[at + packet.plain()..at + packet.plain() + counters],
     }
 }

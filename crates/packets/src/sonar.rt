@@ -5,8 +5,8 @@ ghost use Rattle.packets.specs.Packets.{sonar_body};
 ghost use Rattle.packets.specs.Parts.{sonar_held, sonar_parts};
 
 use crate::fault::PacketFault;
-use crate::numbers::word;
 use crate::packet::{counter_length, judge_pings};
+use byteorder::{ByteOrder, LittleEndian};
 use layouts::settings::Counter;
 
 // The parts of a sonar body; BytesInPacket is handed on as it stands.
@@ -19,6 +19,7 @@ pub struct SonarParts<'a> {
 }
 
 // Whether a sonar body is sound.
+// A function of its own, since callers judge without the parts.
 pub fn judge_sonar(body: &[u8], counter: Counter) -> Result<(), PacketFault>
     ensures { result ≡ sonar_body counter body.now }
 {
@@ -36,7 +37,7 @@ pub fn read_sonar(body: &[u8], counter: Counter) -> Result<SonarParts<'_>, Packe
     judge_sonar(body, counter)?;
     let end = body.len() - counter_length(counter);
     Ok(SonarParts {
-        bytes_in_packet: word(body, 0),
+        bytes_in_packet: LittleEndian::read_u16(body),
         extra_header: &body[0..20],
         data: &body[20..end],
         counter: &body[end..],

@@ -1,22 +1,29 @@
 -- Facts on rows and the cells that they add.
-use Rattle.std.proofs.Common.{◌≡◌, ℕ, zero, suc, ◌+◌, ◌-◌, ◌<◌, ◌≤◌, min, true, false, cond, List, [], ◌∷◌, length, get_or, take, drop, Some, None, Ok, sym, refl, ap, ◌∙◌, subst, le_of_suc-le-suc, not-suc-le-zero, arith, length-append, length-drop, length-take, get_or-drop, get_or-take}
-use Rattle.std.specs.List.{flat_map}
+use Rattle.std.proofs.Common.{◌≡◌, ℕ, zero, suc, ◌+◌, ◌-◌, ◌<◌, ◌≤◌, min, true, false, cond, List, [], ◌∷◌, length, get_or, take, drop, Bor, Some, None, Ok, Option, sym, refl, ap, ◌∙◌, subst, le_of_suc-le-suc, not-suc-le-zero, arith, length-drop, length-take, get_or-drop, get_or-take}
+use Rattle.std.specs.List.{flat_map, sum_by, HoldsAt}
+use Rattle.std.specs.Option.{option_map_or, option_copied, MatchOption}
+use Rattle.std.proofs.lemmas.List.Concat.{length-flat_map}
 use Rattle.std.proofs.lemmas.List.{at_drop_more, at_drop_all}
 use Rattle.recording.specs.declared.Cell.TheVariants.{Byte, Lost}
 use Rattle.recording.specs.declared.extents.Extent.{Extent}
 use Rattle.recording.specs.Cells.{cell_at, is_byte, whole_from, bytes_only, Stand}
-use Rattle.recording.specs.Pieces.{cell_in, run, added, piece, Located, length_run}
+use Rattle.recording.specs.Pieces.{cell_in, run, added, piece, pieces, Located, length_run}
 use Rattle.recording.proofs.Lists.{at_left, at_right, whole_same, whole_append}
 
-pub in_image : (bs : List ℕ) (k : ℕ) → k < length bs → Byte (get_or bs k 0) ≡ cell_in bs k
+in_image : (bs : List ℕ) (k : ℕ) → k < length bs → Byte (get_or bs k 0) ≡ cell_in bs k
 in_image [] k h = absurd (not-suc-le-zero h)
 in_image (b ∷ bs) zero h = refl
 in_image (b ∷ bs) (suc k) h = in_image bs k (le_of_suc-le-suc h)
 
-pub out_image : (bs : List ℕ) (k : ℕ) → length bs ≤ k → Lost ≡ cell_in bs k
+out_image : (bs : List ℕ) (k : ℕ) → length bs ≤ k → Lost ≡ cell_in bs k
 out_image [] k h = refl
 out_image (b ∷ bs) zero h = absurd (not-suc-le-zero h)
 out_image (b ∷ bs) (suc k) h = out_image bs k (le_of_suc-le-suc h)
+
+-- what is got of an image at a place
+pub got : (image : List ℕ) (at : ℕ) (r : Option (Bor ℕ)) → MatchOption r (length image ≤ at) (λ x. (at < length image) × HoldsAt (λ y. x.now ≡ y) image at) → option_map_or Byte (option_copied r) Lost ≡ cell_in image at
+got image at None h = out_image image at h
+got image at (Some x) h = ap Byte (h.1 0) ∙ in_image image at h.0
 
 at_run : (image : List ℕ) (p n k j : ℕ) → k < n → p + k ≡ j → cell_at (run image p n) k ≡ Ok (cell_in image j)
 at_run image p zero k j h e = absurd (not-suc-le-zero h)
@@ -33,12 +40,11 @@ whole_run : (image : List ℕ) (p n a h : ℕ) → a + h ≤ n → whole_from (r
 whole_run image p n a h s =
     whole_same (run image p n) (bytes_only image) a (p + a) h (λ i j e l u. ap is_byte (at_run image p n i j (omega arith) (omega arith)) ∙ byte_in_lem image j)
 
--- one row further
-pub len_more : (image : List ℕ) (rows : List Extent) (i : ℕ) (d : Extent) → i < length rows → length (flat_map (piece image) (drop i rows)) ≡ added (get_or rows i d) + length (flat_map (piece image) (drop (i + 1) rows))
-len_more image rows i d h =
-    let e = get_or rows i d in
-    at_drop_more (λ es. length (flat_map (piece image) es)) rows i d h ∙ length-append (piece image e) (flat_map (piece image) (drop (i + 1) rows)) ∙ ap (λ n. n + length (flat_map (piece image) (drop (i + 1) rows))) (length_run image e.place (added e))
+-- how many cells the rows add
+pub length-pieces : (image : List ℕ) (rows : List Extent) → length (pieces image rows) ≡ sum_by added (take 64 rows)
+length-pieces image rows = length-flat_map (piece image) (take 64 rows) ∙ (λ i. sum_by (λ e. length_run image e.place (added e) i) (take 64 rows))
 
+-- one row further
 pub cell_here : (image : List ℕ) (rows : List Extent) (i : ℕ) (d : Extent) → i < length rows → (k : ℕ) → k < added (get_or rows i d) → cell_at (flat_map (piece image) (drop i rows)) k ≡ Ok (cell_in image ((get_or rows i d).place + k))
 cell_here image rows i d h k l =
     let e = get_or rows i d in

@@ -1,5 +1,6 @@
 -- A recording of which stretches are lost.
-use Rattle.std.specs.Prelude.{◌≡◌, ℕ, suc, ◌+◌, ◌≤◌, min, max, Bool, false, cond, ◌&&◌, ◌||◌, List, [], ◌∷◌, ◌++◌, length, take, Ok, Err, Result, ◌==◌, nat_le, nat_lt, refl}
+use Rattle.std.specs.Prelude.{◌≡◌, ℕ, suc, ◌+◌, ◌≤◌, min, max, Bool, cond, ◌&&◌, List, [], ◌∷◌, ◌++◌, length, Ok, Err, Result, ◌==◌, nat_le, nat_lt, refl}
+use Rattle.std.specs.List.{list_any}
 use Rattle.std.proofs.Common.{ap, arith}
 use Rattle.recording.specs.declared.Cell.{Cell}
 use Rattle.recording.specs.declared.Cell.TheVariants.{Lost}
@@ -17,14 +18,9 @@ holds s place = nat_le s.first place && nat_lt place (s.first + s.count)
 abbrev pub meets : Stretch → ℕ → ℕ → Bool
 meets s at count = nat_lt (max at s.first) (min (at + count) (s.first + s.count))
 
--- whether some element passes a test
-abbrev pub any_of : {X : Type 0} → (X → Bool) → List X → Bool
-any_of test [] = false
-any_of test (x ∷ xs) = test x || any_of test xs
-
 -- whether a place lies in one of the stretches
 abbrev pub lost_at : List Stretch → ℕ → Bool
-lost_at ss place = any_of (λ s. holds s place) ss
+lost_at ss place = list_any (λ s. holds s place) ss
 
 -- cells that begin at a place, lost inside the stretches
 abbrev pub losing : List Stretch → ℕ → List Cell → List Cell
@@ -42,7 +38,7 @@ lose (Err e) = Err e
 
 -- the stretches that are marked
 abbrev pub marks : {S : Type 0} → Stretches S → List Stretch
-marks s = take s.used s.rows
+marks s = s.rows.items
 
 -- what mark answers and the stretches marked then, of a recording of so many cells and the stretches marked before
 abbrev pub marking : ℕ → List Stretch → Stretch → Result (Unit {0}) MarkRefusal × List Stretch

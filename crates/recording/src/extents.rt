@@ -1,12 +1,12 @@
 // A recording that lies in pieces in a card image.
-ghost use Rattle.std.specs.Prelude.{◌≡◌, ◌+◌, take, drop};
+ghost use Rattle.std.specs.Prelude.{◌≡◌, ◌+◌, ◌^◌, ◌<◌, take, drop, sum_by};
 ghost use Rattle.recording.specs.Cells.{whole_from, bytes_only};
 ghost use Rattle.recording.specs.Pieces.{cell_in, added, pieces, Located, judged, first_bad, pieces_bounded};
 ghost use Rattle.recording.specs.Checks.{Checked};
 ghost use Rattle.recording.specs.Refusals.{bad_extent};
 
 use crate::{Cell, PastEnd, Store};
-use refusals::Refusal;
+use refusals::{Notice, Refusal};
 
 // The most cells of a row.
 pub const LONGEST: u32 = 33_554_431;
@@ -63,37 +63,33 @@ impl Extent {
     }
 }
 
+// How many cells the rows add.
+fn total(rows: &[Extent]) -> u32
+    requires { sum_by added rows.now < 2 ^ 32 }
+    ensures { result ≡ sum_by added rows.now }
+{
+    rows.iter().map(Extent::adds).sum()
+}
+
 // The rows that may add cells.
 fn used(rows: &[Extent]) -> &[Extent]
     ensures { result.now ≡ take 64 rows.now }
 {
-    if rows.len() > MOST {
-        &rows[..MOST]
-    } else {
-        rows
-    }
+    &rows[..rows.len().min(MOST)]
 }
 
 fn cell_in(image: &[u8], at: usize) -> Cell
     ensures { result ≡ cell_in image.now at }
 {
-    if at < image.len() {
-        Cell::Byte(image[at])
-    } else {
-        Cell::Lost
-    }
+    image.get(at).copied().map_or(Cell::Lost, Cell::Byte)
 }
 
 // The image's bytes from a place on, so many at the most.
 fn part(image: &[u8], from: usize, most: usize) -> &[u8]
     ensures { result.now ≡ take most (drop from image.now) }
 {
-    if from < image.len() {
-        let count = most.min(image.len() - from);
-        &image[from..from + count]
-    } else {
-        &[]
-    }
+    let rest = &image[from.min(image.len())..];
+    &rest[..rest.len().min(most)]
 }
 
 // Whether the image has all of the `count` bytes from `place + skip` on.
@@ -113,12 +109,12 @@ impl<'i, 'r> Extents<'i, 'r> {
     }
 
     // The row that adds the cell at a place, and the number of the cell in that row.
+    // A chain would be no plainer: what is left of the place changes from row to row.
     fn row_at(&self, at: u32) -> Option<(Extent, u32)>
         ensures { Located self.now.image.now (take 64 self.now.rows.now) at result }
     {
-        let rows = used(self.rows);
         let mut left = at;
-        for row in rows {
+        for row in used(self.rows) {
             let n = row.adds();
             if left < n {
                 return Some((*row, left));
@@ -133,11 +129,8 @@ impl<'i, 'r> Extents<'i, 'r> {
         ensures is { result ≡ first_bad 0 self.now.rows.now }
         ensures says { Checked self.now.image.now self.now.rows.now result }
     {
-        let rows = self.rows;
-        for (i, row) in rows.iter().enumerate() {
-            if let Err(bad) = row.judge(i) {
-                return Err(bad);
-            }
+        for (i, row) in self.rows.iter().enumerate() {
+            row.judge(i)?;
         }
         Ok(())
     }
@@ -149,27 +142,20 @@ impl Store for Extents<'_, '_> {
     ghost bounded = { λ s. pieces_bounded s.image.now s.rows.now };
 
     fn len(&self) -> u32 {
-        let rows = used(self.rows);
-        let mut sum = 0;
-        for row in rows {
-            sum += row.adds();
-        }
-        sum
+        total(used(self.rows))
     }
 
     fn cell(&self, at: u32) -> Result<Cell, PastEnd> {
-        match self.row_at(at) {
-            Some((row, skip)) => Ok(cell_in(self.image, row.place as usize + skip as usize)),
-            None => Err(PastEnd),
-        }
+        let (row, skip) = self.row_at(at).ok_or(PastEnd)?;
+        Ok(cell_in(self.image, row.place as usize + skip as usize))
     }
 
     // Looks at no cell: a row is passed over, or its part of the run lies in the image or does not.
+    // A chain would be no plainer: two counts change from row to row.
     fn whole(&self, at: u32, count: u32) -> bool {
-        let rows = used(self.rows);
         let mut skip = at;
         let mut left = count;
-        for row in rows {
+        for row in used(self.rows) {
             let n = row.adds();
             let passed = skip.min(n);
             let here = left.min(n - passed);
@@ -198,14 +184,9 @@ impl Store for Extents<'_, '_> {
 impl Refusal for BadExtent {
     ghost told = { bad_extent };
 
-    fn number(&self) -> u8 {
-        16
-    }
-
-    fn place(&self) -> usize {
+    fn notice(&self) -> Notice {
         match self {
-            BadExtent::TooLong(row) => *row,
-            BadExtent::TooMany(row) => *row,
+            BadExtent::TooLong(row) | BadExtent::TooMany(row) => Notice::at(16, *row),
         }
     }
 }

@@ -3,7 +3,7 @@
 
 ghost use Rattle.std.specs.Prelude.{◌≡◌, ℕ, ◌≤◌, true, ◌↔◌, List, length};
 ghost use Rattle.recording.specs.declared.Cell.{Cell};
-ghost use Rattle.recording.specs.Cells.{cell_at, is_byte, whole_from, Bytes, whole_everywhere, Stand};
+ghost use Rattle.recording.specs.Cells.{byte_held, cell_at, whole_from, Bytes, whole_everywhere, Stand};
 
 pub mod extents;
 pub mod plain;
@@ -11,10 +11,23 @@ pub mod refusal;
 pub mod stretches;
 
 // One cell of a recording: a byte, or a cell that could not be read.
+// An enum of its own and no Option: Byte and Lost are the words that every theorem on recordings speaks in.
 #[derive(Clone, Copy, Debug, PartialEq, Eq)]
 pub enum Cell {
     Byte(u8),
     Lost,
+}
+
+impl Cell {
+    // The byte that the cell holds.
+    pub fn byte(self) -> Option<u8>
+        ensures { result ≡ byte_held self }
+    {
+        match self {
+            Cell::Byte(b) => Some(b),
+            Cell::Lost => None,
+        }
+    }
 }
 
 // The recording has no cell at the place.
@@ -40,17 +53,15 @@ pub trait Store {
         ensures { result ≡ cell_at (cells self.now) at };
 
     // Whether all of the `count` cells from `at` on exist and are bytes.
+    // No Stretch: that says what is lost, of which most stores know nothing.
     fn whole(&self, at: u32, count: u32) -> bool
         ensures { result ≡ whole_from (cells self.now) at count }
     {
-        let mut place = at;
-        let mut left = count;
-        while left > 0 {
-            if !holds_byte(self.cell(place)) {
+        // A for: that at + k fits follows from the cells before it, which a closure does not see.
+        for k in 0..count {
+            let Ok(Cell::Byte(_)) = self.cell(at + k) else {
                 return false;
-            }
-            place += 1;
-            left -= 1;
+            };
         }
         true
     }
@@ -61,14 +72,5 @@ pub trait Store {
     {
         let _ = at;
         &[]
-    }
-}
-
-fn holds_byte(cell: Result<Cell, PastEnd>) -> bool
-    ensures { result ≡ is_byte cell }
-{
-    match cell {
-        Ok(Cell::Byte(_)) => true,
-        _ => false,
     }
 }

@@ -2,16 +2,12 @@
 ghost use Rattle.recording.specs.Refusals.{past_end};
 
 use crate::PastEnd;
-use refusals::Refusal;
+use refusals::{Notice, Refusal};
 
 impl Refusal for PastEnd {
     ghost told = { past_end };
 
-    fn number(&self) -> u8 {
-        2
-    }
-
-    fn place(&self) -> usize {
-        0
+    fn notice(&self) -> Notice {
+        Notice::nowhere(2)
     }
 }

@@ -1,17 +1,19 @@
 // A recording of which stretches are lost.
 ghost use Rattle.std.specs.Prelude.{◌≡◌, ℕ, ◌+◌, ◌<◌, ◌≤◌, false, [], length, is_ok};
-ghost use Rattle.recording.specs.Marks.{holds, meets, any_of, lost_at, lose, marks, marking, without, without_bounded};
+ghost use Rattle.std.specs.List.{list_any};
+ghost use Rattle.recording.specs.Marks.{holds, meets, lost_at, marks, marking, without, without_bounded};
 ghost use Rattle.recording.specs.Losses.{Loses};
 ghost use Rattle.recording.specs.Refusals.{mark_refusal};
 
 use crate::{Cell, PastEnd, Store};
-use refusals::Refusal;
+use arrayvec::ArrayVec;
+use refusals::{Notice, Refusal};
 
 // The most stretches that are marked.
 pub const MOST: usize = 64;
 
 // `count` cells from `first` on.
-#[derive(Clone, Copy, Debug, PartialEq, Eq)]
+#[derive(Clone, Copy, Debug, Default, PartialEq, Eq)]
 pub struct Stretch {
     pub first: u32,
     pub count: u32,
@@ -27,19 +29,25 @@ pub enum MarkRefusal {
     Full,
 }
 
-// The recording below, of which the first `used` stretches are lost. They may overlap.
+// The recording below, of which the stretches are lost. They may overlap.
 #[derive(Drop)]
 pub struct Stretches<S> {
     below: S,
-    rows: [Stretch; MOST],
-    used: usize,
+    rows: ArrayVec<Stretch, MOST>,
 }
 
 impl Stretch {
+    // The place behind the last.
+    fn end(&self) -> u64
+        ensures { result ≡ self.now.first + self.now.count }
+    {
+        self.first as u64 + self.count as u64
+    }
+
     fn has(&self, at: u32) -> bool
         ensures { result ≡ holds self.now at }
     {
-        self.first <= at && (at as u64) < self.first as u64 + self.count as u64
+        self.first <= at && (at as u64) < self.end()
     }
 
     // Whether one of the `count` places from `at` on lies in the stretch.
@@ -47,7 +55,7 @@ impl Stretch {
         ensures { result ≡ meets self.now at count }
     {
         let from = at.max(self.first) as u64;
-        let to = (at as u64 + count as u64).min(self.first as u64 + self.count as u64);
+        let to = (at as u64 + count as u64).min(self.end());
         from < to
     }
 
@@ -56,7 +64,7 @@ impl Stretch {
         ensures within { result ≤ count }
         ensures none { (k : ℕ) → k < result → holds self.now (at + k) ≡ false }
     {
-        if self.first as u64 + self.count as u64 <= at as u64 {
+        if self.end() <= at as u64 {
             count
         } else {
             count.min(self.first.saturating_sub(at) as usize)
@@ -64,29 +72,8 @@ impl Stretch {
     }
 }
 
-fn any_has(rows: &[Stretch], at: u32) -> bool
-    ensures { result ≡ lost_at rows.now at }
-{
-    for row in rows {
-        if row.has(at) {
-            return true;
-        }
-    }
-    false
-}
-
-fn any_touches(rows: &[Stretch], at: u32, count: u32) -> bool
-    ensures { result ≡ any_of (λ s. meets s at count) rows.now }
-{
-    for row in rows {
-        if row.touches(at, count) {
-            return true;
-        }
-    }
-    false
-}
-
 // How many of the `count` places from `at` on come before the next stretch.
+// A fold would be no plainer: `before` promises bounds and no value, so each step needs the loop's invariant.
 fn unmarked(rows: &[Stretch], at: u32, count: usize) -> usize
     ensures within { result ≤ count }
     ensures none { (k : ℕ) → k < result → lost_at rows.now (at + k) ≡ false }
@@ -98,15 +85,6 @@ fn unmarked(rows: &[Stretch], at: u32, count: usize) -> usize
     free
 }
 
-fn lost(cell: Result<Cell, PastEnd>) -> Result<Cell, PastEnd>
-    ensures { result ≡ lose cell }
-{
-    match cell {
-        Ok(_) => Ok(Cell::Lost),
-        Err(e) => Err(e),
-    }
-}
-
 impl<S: Store> Stretches<S> {
     // Nothing is marked.
     pub fn new(below: S) -> Stretches<S>
@@ -116,8 +94,7 @@ impl<S: Store> Stretches<S> {
     {
         Stretches {
             below,
-            rows: [Stretch { first: 0, count: 0 }; MOST],
-            used: 0,
+            rows: ArrayVec::new(),
         }
     }
 
@@ -125,33 +102,37 @@ impl<S: Store> Stretches<S> {
     pub fn marked(&self) -> &[Stretch]
         ensures { result.now ≡ marks self.now }
     {
-        if self.used < MOST {
-            &self.rows[..self.used]
-        } else {
-            &self.rows
-        }
+        self.rows.as_slice()
+    }
+
+    // Whether a stretch has the place.
+    fn has(&self, at: u32) -> bool
+        ensures { result ≡ lost_at (marks self.now) at }
+    {
+        self.marked().iter().any(|row| row.has(at))
+    }
+
+    // Whether one of the `count` places from `at` on lies in a stretch.
+    fn touches(&self, at: u32, count: u32) -> bool
+        ensures { result ≡ list_any (λ s. meets s at count) (marks self.now) }
+    {
+        self.marked().iter().any(|row| row.touches(at, count))
     }
 
     // Marks a stretch as lost. A refusal marks nothing.
-    pub fn mark(&mut self, first: u32, count: u32) -> Result<(), MarkRefusal>
-        ensures marks { (result, marks self.new) ≡ marking (length (S.Store.cells self.old.below)) (marks self.old) (record { first = first; count = count }) }
+    pub fn mark(&mut self, stretch: Stretch) -> Result<(), MarkRefusal>
+        ensures marks { (result, marks self.new) ≡ marking (length (S.Store.cells self.old.below)) (marks self.old) stretch }
         ensures below { self.new.below ≡ self.old.below }
         ensures refused { is_ok result ≡ false → self.new ≡ self.old }
-        ensures loses { Loses (record { first = first; count = count }) (without (marks self.old) (S.Store.cells self.old.below)) (without (marks self.new) (S.Store.cells self.new.below)) result }
+        ensures loses { Loses stretch (without (marks self.old) (S.Store.cells self.old.below)) (without (marks self.new) (S.Store.cells self.new.below)) result }
     {
-        if count == 0 {
+        if stretch.count == 0 {
             return Err(MarkRefusal::Empty);
         }
-        if first as u64 + count as u64 > self.below.len() as u64 {
+        if stretch.end() > self.below.len() as u64 {
             return Err(MarkRefusal::PastEnd);
         }
-        let rows: &[Stretch] = &self.rows;
-        if self.used >= rows.len() {
-            return Err(MarkRefusal::Full);
-        }
-        self.rows[self.used] = Stretch { first, count };
-        self.used += 1;
-        Ok(())
+        self.rows.try_push(stretch).map_err(|_| MarkRefusal::Full)
     }
 }
 
@@ -165,20 +146,17 @@ impl<S: Store> Store for Stretches<S> {
     }
 
     fn cell(&self, at: u32) -> Result<Cell, PastEnd> {
-        if any_has(self.marked(), at) {
-            lost(self.below.cell(at))
+        let cell = self.below.cell(at);
+        if self.has(at) {
+            cell.map(|_| Cell::Lost)
         } else {
-            self.below.cell(at)
+            cell
         }
     }
 
     // Looks at no cell of its own: a run that meets a stretch is not whole, and any other is as below.
     fn whole(&self, at: u32, count: u32) -> bool {
-        if any_touches(self.marked(), at, count) {
-            false
-        } else {
-            self.below.whole(at, count)
-        }
+        !self.touches(at, count) && self.below.whole(at, count)
     }
 
     // The bytes below, up to the next stretch.
@@ -191,15 +169,10 @@ impl<S: Store> Store for Stretches<S> {
 impl Refusal for MarkRefusal {
     ghost told = { mark_refusal };
 
-    fn number(&self) -> u8 {
+    fn notice(&self) -> Notice {
         match self {
-            MarkRefusal::Empty => 14,
-            MarkRefusal::PastEnd => 14,
-            MarkRefusal::Full => 23,
+            MarkRefusal::Empty | MarkRefusal::PastEnd => Notice::nowhere(14),
+            MarkRefusal::Full => Notice::nowhere(23),
         }
-    }
-
-    fn place(&self) -> usize {
-        0
     }
 }

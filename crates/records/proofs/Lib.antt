@@ -2,3 +2,4 @@ pub mod Reading
 pub mod TupleTests
 pub mod SentenceTests
 pub mod Searches
+pub mod Runs

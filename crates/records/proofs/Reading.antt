@@ -1,12 +1,14 @@
 -- Reads of a store at a place, told by the run of bytes at an earlier place.
-use Rattle.std.proofs.Common.{◌≡◌, ℕ, zero, suc, ◌+◌, ◌*◌, ◌<◌, ◌≤◌, false, cond, leb, List, [], ◌∷◌, length, get_or, drop, is_some, Some, None, Ok, Err, Option, Result, sym, refl, ap, ◌∙◌, ⊎_elim, le_of_suc-le-suc, not-suc-le-zero, add-zero, mod-eq_of_lt, arith, length-drop, get_or-drop, drop-drop}
+use Rattle.std.proofs.Common.{◌≡◌, ℕ, zero, suc, ◌+◌, ◌*◌, ◌<◌, ◌≤◌, true, false, cond, leb, nat_eq, List, [], ◌∷◌, length, get_or, drop, is_some, Some, None, Ok, Err, Option, Result, sym, refl, ap, ◌∙◌, ⊎_elim, le_of_suc-le-suc, not-suc-le-zero, add-zero, mod-eq_of_lt, arith, length-drop, get_or-drop, drop-drop}
 use Rattle.recording.specs.declared.Cell.{Cell}
 use Rattle.recording.specs.declared.Cell.TheVariants.{Byte, Lost}
 use Rattle.recording.specs.declared.PastEnd.{PastEnd}
-use Rattle.recording.specs.Cells.{cell_at, is_byte, whole_from, Stand}
+use Rattle.std.specs.Option.{option_and_then, option_eq}
+use Rattle.std.specs.Result.{result_ok}
+use Rattle.recording.specs.Cells.{byte_held, cell_at, is_byte, whole_from, Stand}
 use Rattle.records.specs.Grammars.{bytes_of, bytes_from, held, first, first_two}
 use Rattle.records.specs.GrammarLaws.{bytes_within}
-use Rattle.std.proofs.lemmas.Bool.{le-leb, lt-leb, cases_lt}
+use Rattle.std.proofs.lemmas.Bool.{le-leb, lt-leb, cases_lt, eqb-true, false≢true}
 use Rattle.records.specs.Tuples.{pair_at}
 
 pub first_cell : (cs : List Cell) (p : ℕ) → first (bytes_from cs p) ≡ held (cell_at cs p)
@@ -16,6 +18,17 @@ first_cell (Byte b ∷ cs) zero = refl
 first_cell (Lost ∷ cs) zero = refl
 first_cell (Byte b ∷ cs) (suc p) = first_cell cs p
 first_cell (Lost ∷ cs) (suc p) = first_cell cs p
+
+-- the byte of a cell that is there
+pub held_is : (r : Result Cell PastEnd) → option_and_then byte_held (result_ok r) ≡ held r
+held_is (Ok (Byte b)) = refl
+held_is (Ok Lost) = refl
+held_is (Err e) = refl
+
+-- what is equal to a number that is there
+pub same_some : (o : Option ℕ) (n : ℕ) → option_eq nat_eq o (Some n) ≡ true → o ≡ Some n
+same_some None n e = absurd (false≢true e)
+same_some (Some b) n e = ap Some (eqb-true b n e)
 
 drop_bytes : (k : ℕ) (cs : List Cell) → k ≤ length (bytes_of cs) → bytes_of (drop k cs) ≡ drop k (bytes_of cs)
 drop_bytes zero cs h = refl

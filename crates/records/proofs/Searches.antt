@@ -1,34 +1,23 @@
 -- Places that a search passes over.
-use Rattle.std.proofs.Common.{◌≡◌, ℕ, zero, suc, ◌+◌, ◌-◌, ◌<◌, ◌≤◌, Bool, true, false, cond, not, eqb, List, [], ◌∷◌, map, length, get_or, replicate, Some, sym, refl, ap, ◌∙◌, subst, ⊎_elim, not-suc-le-zero, arith}
-use lib.Bits.{bit_and, bit_or, bit_xor, and_zero_r}
+use Rattle.std.proofs.Common.{◌≡◌, ℕ, zero, suc, ◌+◌, ◌-◌, ◌<◌, ◌≤◌, not, eqb, List, map, length, get_or, replicate, Some, None, Option, sym, refl, ap, ◌∙◌, ⊎_elim, arith}
+use lib.Bits.{bit_or, bit_xor}
 use lib.Count.{count_trailing_zeros}
 use lib.Lanes.{zip2, chunk, mask_l}
 use Rattle.std.specs.List.{prefix_len}
 use Rattle.std.proofs.lemmas.Simd.{length-zip2, length-chunk, length-replicate, get_or-zip2, get_or-replicate, get_or-chunk, leading_from_mask_l, trailing_mask_l}
-use Rattle.std.proofs.lemmas.List.Sums.{prefix_len-le-length}
+use Rattle.std.proofs.lemmas.List.Sums.{prefix_len-le-length, prefix_len_passes}
 use Rattle.std.proofs.lemmas.Bool.{cases_lt, eq-eqb, eqb-true, false≢true}
+use Rattle.std.specs.Option.{unwrap_or}
+use Rattle.memchr.specs.Find.{IsFirstByte, is_byte}
 use Rattle.records.specs.declared.search.Pair.{Pair}
 use Rattle.records.specs.Grammars.{meaning, bytes_from, first}
 use Rattle.records.specs.Records.{Vacant}
 use Rattle.records.proofs.Reading.{some_first, stand_byte, byte_in_lem}
 use Rattle.records.specs.Sentences.{sentence}
 use Rattle.records.specs.Tuples.{tuple}
-use Rattle.records.proofs.SentenceTests as sentences
+use Rattle.records.proofs.SentenceTests.{headless}
 use Rattle.records.proofs.TupleTests.{none_when}
 use Rattle.records.specs.Searching.{differs, lanes, Unlike}
-
-leading_step : (b : Bool) (n j : ℕ) → suc j < cond b (1 + n) 0 → j < n
-leading_step true n j h = omega arith
-leading_step false n j h = absurd (not-suc-le-zero h)
-
-leading_first : (b : Bool) (n : ℕ) → 0 < cond b (1 + n) 0 → b ≡ true
-leading_first true n h = refl
-leading_first false n h = absurd (not-suc-le-zero h)
-
-pub leading_passes : {X : Type 0} (p : X → Bool) (xs : List X) (j : ℕ) (d : X) → j < prefix_len p xs → p (get_or xs j d) ≡ true
-leading_passes p [] j d h = absurd (not-suc-le-zero h)
-leading_passes p (x ∷ xs) zero d h = leading_first (p x) (prefix_len p xs) h
-leading_passes p (x ∷ xs) (suc j) d h = leading_passes p xs j d (leading_step (p x) (prefix_len p xs) j h)
 
 -- 32 lanes
 module _ (pair : Pair) (heres nexts : List ℕ) (lh : length heres ≡ 32) (ln : length nexts ≡ 32) where
@@ -44,20 +33,20 @@ module _ (pair : Pair) (heres nexts : List ℕ) (lh : length heres ≡ 32) (ln :
   abbrev seconds : List ℕ
   seconds = zip2 bit_xor nexts (replicate 32 pair.second)
 
-  masked_long : length (zip2 bit_and seconds (replicate 32 pair.mask)) ≡ 32
-  masked_long = with_splat bit_and seconds pair.mask (with_splat bit_xor nexts pair.second ln)
-
   firsts_long : length firsts ≡ 32
   firsts_long = with_splat bit_xor heres pair.first lh
 
+  seconds_long : length seconds ≡ 32
+  seconds_long = with_splat bit_xor nexts pair.second ln
+
   pub lanes_long : length (lanes pair heres nexts) ≡ 32
-  lanes_long = length-zip2 bit_or firsts (zip2 bit_and seconds (replicate 32 pair.mask)) (firsts_long ∙ sym masked_long) ∙ firsts_long
+  lanes_long = length-zip2 bit_or firsts seconds (firsts_long ∙ sym seconds_long) ∙ firsts_long
 
   pub lane_at : (j : ℕ) → j < 32 → get_or (lanes pair heres nexts) j 0 ≡ differs pair (get_or heres j 0) (get_or nexts j 0)
   lane_at j h =
       let first = at_splat bit_xor heres pair.first j lh h in
-      let second = at_splat bit_and seconds pair.mask j (with_splat bit_xor nexts pair.second ln) h ∙ ap (λ x. bit_and x pair.mask) (at_splat bit_xor nexts pair.second j ln h) in
-      get_or-zip2 bit_or firsts (zip2 bit_and seconds (replicate 32 pair.mask)) j 0 0 0 (omega (arith, firsts_long)) (omega (arith, masked_long)) ∙ (λ i. bit_or (first i) (second i))
+      let second = at_splat bit_xor nexts pair.second j ln h in
+      get_or-zip2 bit_or firsts seconds j 0 0 0 (omega (arith, firsts_long)) (omega (arith, seconds_long)) ∙ (λ i. bit_or (first i) (second i))
 
 -- 32 places of a run from a place on
 module _ (pair : Pair) (run : List ℕ) (at : ℕ) (room : at + 33 ≤ length run) where
@@ -84,7 +73,7 @@ module _ (pair : Pair) (run : List ℕ) (at : ℕ) (room : at + 33 ≤ length ru
           let i-is : at + j ≡ k = omega arith in
           let n-is : at + 1 + j ≡ k + 1 = omega arith in
           let small : j < 32 = omega (arith, most) in
-          let unlike = leading_passes (λ x. not (eqb x 0)) compared j 0 (omega arith) in
+          let unlike = prefix_len_passes (λ x. not (eqb x 0)) compared j 0 (omega arith) in
           let lane = compared_at j small in
           let there : get_or compared j 0 ≡ differs pair (get_or run k 0) (get_or run (k + 1) 0) = lane ∙ (λ i. differs pair (get_or run (i-is i) 0) (get_or run (n-is i) 0)) in
           (omega (arith, most), λ z. false≢true (sym (ap not (eq-eqb (get_or compared j 0) 0 (there ∙ z))) ∙ unlike))
@@ -97,26 +86,13 @@ module _ (pair : Pair) (run : List ℕ) (at : ℕ) (room : at + 33 ≤ length ru
       let some : 0 < mask_l (map (λ x. eqb x 0) compared) = omega arith in
       passed (count_trailing_zeros 64 m) (ap (count_trailing_zeros 64) e ∙ trailing_mask_l (λ x. eqb x 0) 64 compared (omega (arith, compared_long)) some)
 
--- one place more
-pub one_more : (pair : Pair) (run : List ℕ) (at : ℕ) → at + 1 < length run → eqb (differs pair (get_or run at 0) (get_or run (at + 1) 0)) 0 ≡ false → Unlike pair run at → Unlike pair run (at + 1)
-one_more pair run at room e before k h =
-    ⊎_elim (λ lt. before k lt)
-    (λ ge.
-    let same : at ≡ k = omega arith in
-    let P : ℕ → Type 0 = λ q. (q + 1 < length run) × (differs pair (get_or run q 0) (get_or run (q + 1) 0) ≡ 0 → ⊥) in
-    subst P same (room, λ z. false≢true (sym e ∙ eq-eqb _ 0 z)))
-    (cases_lt k at)
-
 pub unlike_within : (pair : Pair) (run : List ℕ) (n : ℕ) → Unlike pair run n → n ≤ length run
 unlike_within pair run zero unlike = omega arith
 unlike_within pair run (suc n) unlike = omega (arith, (unlike n (omega arith)).0)
 
--- a tuple begins with its pair, and so does a sentence
+-- a tuple begins with its pair
 abbrev pub sync_pair : Pair
-sync_pair = record { first = 0; second = 128; mask = 255 }
-
-abbrev pub dollar_pair : Pair
-dollar_pair = record { first = 36; second = 0; mask = 0 }
+sync_pair = record { first = 0; second = 128 }
 
 module _ (run : List ℕ) (n : ℕ) (bytes : (k : ℕ) → get_or run k 0 < 256) where
   pub no_tuple : Unlike sync_pair run n → Vacant (meaning tuple) run n
@@ -129,9 +105,12 @@ module _ (run : List ℕ) (n : ℕ) (bytes : (k : ℕ) → get_or run k 0 < 256)
       let same : get_or run (k + 1) 0 ≡ 128 = cc in
       here.1 (λ i. differs sync_pair (zeroth i) (same i))))
 
-  pub no_sentence : Unlike dollar_pair run n → Vacant (meaning sentence) run n
-  no_sentence unlike cs p stand k h = sym (sentences.none_when cs (p + k) (λ head.
-      let here = unlike k h in
-      let mark : get_or run k 0 ≡ 36 = sym (some_first _ _ (stand_byte cs p run stand bytes k (omega (arith, here.0)))).1 ∙ eqb-true _ 36 head.mark in
-      let any = and_zero_r (bit_xor (get_or run (k + 1) 0) 0) in
-      here.1 (λ i. bit_or (bit_xor (mark i) 36) (any i))))
+  -- no sentence begins before the first `$`
+  pub no_sentence : n ≤ length run → ((k : ℕ) → k < n → get_or run k 0 ≡ 36 → ⊥) → Vacant (meaning sentence) run n
+  no_sentence within unlike cs p stand k h = headless (bytes_from cs (p + k)) (λ head.
+      unlike k h (sym (some_first _ _ (stand_byte cs p run stand bytes k (omega arith))).1 ∙ eqb-true _ 36 head.mark))
+
+-- how far the first `$` is, or the end
+pub first_dollar : (run : List ℕ) (found : Option ℕ) (n : ℕ) → IsFirstByte (is_byte 36) run found → n ≡ unwrap_or found (length run) → (n ≤ length run) × ((k : ℕ) → k < n → get_or run k 0 ≡ 36 → ⊥)
+first_dollar run None n h is = (omega arith, λ k l e. h k (omega arith) (omega arith) (eq-eqb _ 36 e))
+first_dollar run (Some m) n h is = (omega (arith, h.0.high), λ k l e. h.0.before k (omega arith) (omega arith) (eq-eqb _ 36 e))

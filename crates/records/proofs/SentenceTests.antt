@@ -1,116 +1,98 @@
 -- Where a sentence stands, told by what was read.
-use Rattle.std.proofs.Common.{◌≡◌, ℕ, zero, suc, ◌+◌, ◌*◌, ◌<◌, ◌≤◌, Bool, true, false, cond, ◌&&◌, eqb, leb, List, [], ◌∷◌, length, get_or, drop, Some, None, Option, sym, refl, ap, ◌∙◌, ⊎_elim, add-zero, add_assoc, add-one, arith, drop-cons}
+use Rattle.std.proofs.Common.{◌≡◌, ℕ, zero, suc, ◌+◌, ◌<◌, ◌≤◌, Bool, true, false, cond, ◌&&◌, eqb, leb, List, [], ◌∷◌, length, get_or, take, drop, min, Some, None, Option, sym, refl, ap, ◌∙◌, ⊎_elim, add-one, suc-le-suc, le_of_suc-le-suc, not-suc-le-zero, zero-le, arith, drop-cons, length-take, get_or-take}
 use lib.Bits.{bit_xor}
-use Rattle.std.proofs.lemmas.Bool.{cases_Bool, cond-false, cond-true, eqb-true, eq-eqb, ne_eqb, and_left, and_right, and_from, and_parts, le-leb, lt-leb, false≢true}
-use Rattle.recording.specs.declared.Cell.{Cell}
-use Rattle.records.specs.Grammars.{bytes_from, first}
+use Rattle.std.proofs.lemmas.List.{drop_all}
+use Rattle.std.proofs.lemmas.Bool.{cases_Bool, cases_lt, cond-false, cond-true, eqb-true, eq-eqb, ne_eqb, and_left, and_right, and_from, and_parts, le-leb, lt-leb, false≢true}
+use Rattle.memchr.specs.Find.{IsFirstByte, is_byte}
+use Rattle.records.specs.Sentences.{name_char, text_char, all_text, is_text, before_star, xored, closing, begins, dollar, is_head, name_sum, tag_of, is_tail, tail_of, sentence_of, sentence}
 use Rattle.records.specs.GrammarLaws.{some_cond}
-use Rattle.records.specs.Sentences.{name_char, text_char, char_at, all_text, is_text, before_star, xored, closing, begins, named, dollar, is_head, is_tail, tail_of, sentence_of, sentence}
-use Rattle.records.proofs.Reading.{byte_in_lem, run_empty, run_first}
 use Rattle.records.proofs.TupleTests.{read_in}
 
--- a text, and the bytes at a place
-module _ (cs : List Cell) (q : ℕ) (text : List ℕ) (i : ℕ) (more : i < length text) where
+-- a turn of the code that reads a text
+module _ (text : List ℕ) (i : ℕ) (more : i < length text) where
   on : drop i text ≡ get_or text i 0 ∷ drop (i + 1) text
   on = drop-cons text i 0 more ∙ ap (λ k. get_or text i 0 ∷ drop k text) (sym (add-one i))
 
-  pub spelled_none : first (bytes_from cs q) ≡ None → begins (drop i text) (bytes_from cs q) ≡ false
-  spelled_none e = λ j. begins (on j) (run_empty (bytes_from cs q) e j)
+  pub sum_next : (sum : ℕ) → xored sum (drop i text) ≡ xored (bit_xor sum (get_or text i 0)) (drop (i + 1) text)
+  sum_next sum = ap (xored sum) on
 
-  spelled_some : (b : ℕ) → first (bytes_from cs q) ≡ Some b → begins (drop i text) (bytes_from cs q) ≡ (eqb b (get_or text i 0) && begins (drop (i + 1) text) (bytes_from cs (q + 1)))
-  spelled_some b e = λ j. begins (on j) (run_first cs q b e j)
+  pub good_next : (good : Bool) → (good && all_text (drop i text)) ≡ ((good && text_char (get_or text i 0)) && all_text (drop (i + 1) text))
+  good_next false = refl
+  good_next true = ap all_text on
 
-  pub spelled_other : (b : ℕ) → first (bytes_from cs q) ≡ Some b → (b ≡ get_or text i 0 → ⊥) → begins (drop i text) (bytes_from cs q) ≡ false
-  spelled_other b e ne = spelled_some b e ∙ and_left _ _ (ne_eqb _ _ ne)
+and_true : (t : Bool) → (t && true) ≡ t
+and_true true = refl
+and_true false = refl
 
-  pub spelled_same : (b : ℕ) → first (bytes_from cs q) ≡ Some b → b ≡ get_or text i 0 → begins (drop i text) (bytes_from cs q) ≡ begins (drop (i + 1) text) (bytes_from cs (q + 1))
-  spelled_same b e same = spelled_some b e ∙ ap (λ t. t && begins (drop (i + 1) text) (bytes_from cs (q + 1))) (eq-eqb _ _ same)
+-- a text is of characters, a comma first
+pub text_parts : (text : List ℕ) → (all_text text && is_text (take 1 text)) ≡ is_text text
+text_parts [] = refl
+text_parts (b ∷ bs) = ⊎_elim (λ e. comma (eqb-true b 44 e) e) (λ e. and_right (all_text (b ∷ bs)) _ (and_left _ true e) ∙ sym (and_left _ (all_text bs) e)) (cases_Bool (eqb b 44))
+  where
+    comma : b ≡ 44 → eqb b 44 ≡ true → (all_text (b ∷ bs) && (eqb b 44 && true)) ≡ (eqb b 44 && all_text bs)
+    comma is e = (λ j. all_text (is j ∷ bs) && (eqb (is j) 44 && true)) ∙ and_true (all_text bs) ∙ sym (λ j. eqb (is j) 44 && all_text bs)
 
--- the text of a sentence from its character k on
-abbrev pub text_from : ℕ → List ℕ → Bool
-text_from k [] = true
-text_from k (b ∷ bs) = char_at k b && text_from (k + 1) bs
+-- with no star among the first m bytes, so many stand before the first
+unstarred : (m : ℕ) (bs : List ℕ) → m ≤ length bs → ((k : ℕ) → k < m → get_or bs k 0 ≡ 42 → ⊥) → m ≤ length (before_star bs)
+unstarred zero bs h none = zero-le
+unstarred (suc m) [] h none = absurd (not-suc-le-zero h)
+unstarred (suc m) (b ∷ bs) h none =
+    let goes : before_star (b ∷ bs) ≡ b ∷ before_star bs = cond-false (eqb b 42) _ _ (ne_eqb b 42 (none 0 (omega arith))) in
+    omega (arith, ap length goes, unstarred m bs (le_of_suc-le-suc h) (λ k l. none (suc k) (suc-le-suc l)))
 
-text_all : (k : ℕ) (bs : List ℕ) → 0 < k → text_from k bs ≡ all_text bs
-text_all k [] h = refl
-text_all k (b ∷ bs) h =
-    let char : char_at k b ≡ text_char b = cond-false (eqb k 0) _ _ (ne_eqb k 0 (λ e. omega arith)) in
-    let rest = text_all (k + 1) bs (omega arith) in
-    λ j. char j && rest j
+-- the first star is at k
+starred : (k : ℕ) (bs : List ℕ) → k < length bs → ((j : ℕ) → j < k → get_or bs j 0 ≡ 42 → ⊥) → get_or bs k 0 ≡ 42 → before_star bs ≡ take k bs
+starred k [] h none e = absurd (not-suc-le-zero h)
+starred zero (b ∷ bs) h none e = cond-true (eqb b 42) _ _ (eq-eqb b 42 e)
+starred (suc k) (b ∷ bs) h none e =
+    cond-false (eqb b 42) _ _ (ne_eqb b 42 (none 0 (omega arith))) ∙ ap (λ l. b ∷ l) (starred k bs (le_of_suc-le-suc h) (λ j l. none (suc j) (suc-le-suc l)) e)
 
-text_is : (bs : List ℕ) → text_from 0 bs ≡ is_text bs
-text_is [] = refl
-text_is (b ∷ bs) = ap (λ t. eqb b 44 && t) (text_all 1 bs (omega arith))
-
--- what is left of a sentence after k characters of its text
-abbrev pub end_of : ℕ → ℕ → List ℕ → List ℕ → Option ℕ
-end_of k sum text rest =
-    cond (text_from k text && (leb (k + length text + 11) 82 && begins (closing (xored sum text)) (drop (suc (length text)) rest))) (Some (k + length text + 11)) None
-
-abbrev pub tail_from : ℕ → ℕ → List ℕ → Option ℕ
-tail_from k sum rest = end_of k sum (before_star rest) rest
-
-pub tail_start : (sum : ℕ) (rest : List ℕ) → tail_of sum rest ≡ tail_from 0 sum rest
-tail_start sum rest =
-    let text = before_star rest in
-    let z : length text ≡ 0 + length text = omega arith in
-    let is = sym (text_is text) in
-    λ j. cond (is j && (leb (z j + 11) 82 && begins (closing (xored sum text)) (drop (suc (length text)) rest))) (Some (z j + 11)) None
-
-tail_empty : (k sum : ℕ) → tail_from k sum [] ≡ None
-tail_empty k sum = cond-false _ _ _ (and_right (leb (k + 0 + 11) 82) false refl)
-
-tail_star : (k sum b : ℕ) (rest : List ℕ) → k < 72 → b ≡ 42 → tail_from k sum (b ∷ rest) ≡ cond (begins (closing sum) rest) (Some (k + 11)) None
-tail_star k sum b rest h e =
-    let short : leb (k + 0 + 11) 82 ≡ true = le-leb _ _ (omega arith) in
-    let k-is : k + 0 ≡ k = omega arith in
-    ap (λ x. tail_from k sum (x ∷ rest)) e ∙ (λ j. cond (short j && begins (closing sum) rest) (Some (k-is j + 11)) None)
-
-module _ (k sum b : ℕ) (rest : List ℕ) (ne : b ≡ 42 → ⊥) where
-  goes : before_star (b ∷ rest) ≡ b ∷ before_star rest
-  goes = cond-false (eqb b 42) _ _ (ne_eqb b 42 ne)
-
-  tail_bad : char_at k b ≡ false → tail_from k sum (b ∷ rest) ≡ None
-  tail_bad e = ap (λ t. end_of k sum t (b ∷ rest)) goes ∙ cond-false _ _ _ (and_left _ _ (and_left _ _ e))
-
-  tail_next : char_at k b ≡ true → tail_from k sum (b ∷ rest) ≡ tail_from (k + 1) (bit_xor sum b) rest
-  tail_next e =
-      let text = before_star rest in
-      let n : k + suc (length text) ≡ k + 1 + length text = omega arith in
-      ap (λ t. end_of k sum t (b ∷ rest)) goes
-      ∙ (λ j. cond ((e j && text_from (k + 1) text) && (leb (n j + 11) 82 && begins (closing (xored (bit_xor sum b) text)) (drop (suc (length text)) rest))) (Some (n j + 11)) None)
-
-pub tail_long : (k sum : ℕ) (rest : List ℕ) → 72 ≤ k → tail_from k sum rest ≡ None
-tail_long k sum rest h = cond-false _ _ _ (and_right (text_from k (before_star rest)) _ (and_left _ _ (lt-leb (k + length (before_star rest) + 11) 82 (omega arith))))
-
--- a turn of the code that reads the text
-pub turn_none : (cs : List Cell) (q k sum : ℕ) → first (bytes_from cs q) ≡ None → tail_from k sum (bytes_from cs q) ≡ None
-turn_none cs q k sum e = ap (tail_from k sum) (run_empty (bytes_from cs q) e) ∙ tail_empty k sum
-
-module _ (cs : List Cell) (q k sum b : ℕ) (read : first (bytes_from cs q) ≡ Some b) where
-  some : tail_from k sum (bytes_from cs q) ≡ tail_from k sum (b ∷ bytes_from cs (q + 1))
-  some = ap (tail_from k sum) (run_first cs q b read)
-
-  pub turn_star : k < 72 → b ≡ 42 → tail_from k sum (bytes_from cs q) ≡ cond (begins (closing sum) (bytes_from cs (q + 1))) (Some (k + 11)) None
-  turn_star h e = some ∙ tail_star k sum b (bytes_from cs (q + 1)) h e
-
-  pub turn_bad : (b ≡ 42 → ⊥) → char_at k b ≡ false → tail_from k sum (bytes_from cs q) ≡ None
-  turn_bad ne e = some ∙ tail_bad k sum b (bytes_from cs (q + 1)) ne e
-
-  pub turn_next : (b ≡ 42 → ⊥) → char_at k b ≡ true → tail_from k sum (bytes_from cs q) ≡ tail_from (k + 1) (bit_xor sum b) (bytes_from cs (q + 1))
-  turn_next ne e = some ∙ tail_next k sum b (bytes_from cs (q + 1)) ne e
-
-name_some : (b : ℕ) → name_char b ≡ true → 0 < b
-name_some zero e = absurd (false≢true e)
-name_some (suc b) e = omega arith
-
-named_some : (bs : List ℕ) (b : ℕ) → named bs ≡ Some b → (first bs ≡ Some b) × (name_char b ≡ true)
-named_some [] b e = let z : ◌≡◌ {A = ℕ} 0 1 = cc in absurd (omega arith)
-named_some (a ∷ bs) b e = let f = some_cond (name_char a) a b e in (ap Some f.1, ap name_char (sym f.1) ∙ f.0)
+both : (t u : Bool) (n : ℕ) → cond t (cond u (Some n) None) None ≡ cond (t && u) (Some n) None
+both true u n = refl
+both false u n = refl
 
 none_cond : {A : Type 0} (t : Bool) (x : A) → cond t (Some x) None ≡ None → t ≡ false
 none_cond false x e = refl
 none_cond true x e = let z : ◌≡◌ {A = ℕ} 0 1 = cc in absurd (omega arith)
+
+-- the first star was looked for among the first m bytes, 72 or all
+module _ (sum m : ℕ) (rest : List ℕ) (is : m ≡ min (length rest) 72) where
+  pub starless : IsFirstByte (is_byte 42) (take m rest) None → None ≡ tail_of sum rest
+  starless none =
+      let text = before_star rest in
+      let far = unstarred m rest (omega arith) (λ k l e. none k zero-le (omega (arith, length-take m rest)) (eq-eqb _ 42 (get_or-take m rest k 0 l ∙ e))) in
+      ⊎_elim
+      (λ lt.
+      let past : begins (closing (xored sum text)) (drop (suc (length text)) rest) ≡ false = ap (begins (closing (xored sum text))) (drop_all (suc (length text)) rest (omega (arith, far))) in
+      sym (cond-false _ _ _ (and_right (is_text text) _ (and_right (leb (length text + 11) 82) _ past))))
+      (λ ge. sym (cond-false _ _ _ (and_right (is_text text) _ (and_left _ _ (lt-leb (length text + 11) 82 (omega (arith, far)))))))
+      (cases_lt (length rest) 72)
+
+  module _ (k : ℕ) (found : IsFirstByte (is_byte 42) (take m rest) (Some k)) where
+    before : k < m
+    before = omega (arith, found.0.high, length-take m rest)
+
+    by_text : cond (is_text (take k rest)) (cond (begins (closing (xored sum (take k rest))) (drop (k + 1) rest)) (Some (k + 11)) None) None ≡ tail_of sum rest
+    by_text =
+        let same = starred k rest (omega (arith, before)) (λ j l e. found.0.before j zero-le l (eq-eqb _ 42 (get_or-take m rest j 0 (omega (arith, before)) ∙ e))) (sym (get_or-take m rest k 0 before) ∙ eqb-true _ 42 found.1) in
+        let n : length (before_star rest) ≡ k = omega (arith, ap length same, length-take k rest, before) in
+        let short : leb (k + 11) 82 ≡ true = le-leb _ _ (omega (arith, before)) in
+        let next : k + 1 ≡ suc k = add-one k in
+        both (is_text (take k rest)) (begins (closing (xored sum (take k rest))) (drop (k + 1) rest)) (k + 11)
+        ∙ (λ j. cond (is_text (take k rest) && (sym short j && begins (closing (xored sum (take k rest))) (drop (next j) rest))) (Some (k + 11)) None)
+        ∙ sym (λ j. cond (is_text (same j) && (leb (n j + 11) 82 && begins (closing (xored sum (same j))) (drop (suc (n j)) rest))) (Some (n j + 11)) None)
+
+    pub textless : None ≡ cond (is_text (take k rest)) (Some (xored sum (take k rest))) None → None ≡ tail_of sum rest
+    textless e = sym (cond-false _ _ _ (none_cond (is_text (take k rest)) _ (sym e))) ∙ by_text
+
+    pub closed : (x : ℕ) → Some x ≡ cond (is_text (take k rest)) (Some (xored sum (take k rest))) None → cond (begins (closing x) (drop (k + 1) rest)) (Some (k + 11)) None ≡ tail_of sum rest
+    closed x e =
+        let f = some_cond (is_text (take k rest)) _ x (sym e) in
+        sym (cond-true _ _ _ f.0 ∙ ap (λ s. cond (begins (closing s) (drop (k + 1) rest)) (Some (k + 11)) None) f.1) ∙ by_text
+
+name_some : (b : ℕ) → name_char b ≡ true → 0 < b
+name_some zero e = absurd (false≢true e)
+name_some (suc b) e = omega arith
 
 -- what it says of the bytes that a sentence's head stands at their front
 pub record Headed (bs : List ℕ) : Type 0 where
@@ -130,57 +112,36 @@ when_head bs e =
     let f = and_parts _ _ d.1 in
     record { mark = a.0; n1 = b.0; n2 = c.0; n3 = d.0; n4 = f.0; n5 = f.1 }
 
-module _ (cs : List Cell) (p : ℕ) where
-  pub none_when : (Headed (bytes_from cs p) → ⊥) → None ≡ sentence (bytes_from cs p)
-  none_when lacks =
-      ⊎_elim
-      (λ e. absurd (lacks (when_head (bytes_from cs p) e)))
-      (λ e. sym (cond-false _ _ _ (and_left (is_head (bytes_from cs p)) _ e)))
-      (cases_Bool (is_head (bytes_from cs p)))
+-- without a head there is no sentence
+pub headless : (bs : List ℕ) → (Headed bs → ⊥) → sentence bs ≡ None
+headless bs lacks =
+    ⊎_elim (λ e. absurd (lacks (when_head bs e))) (λ e. cond-false _ _ _ (and_left (is_head bs) _ e)) (cases_Bool (is_head bs))
 
-  pub unmarked : dollar (bytes_from cs p) ≡ false → None ≡ sentence (bytes_from cs p)
-  unmarked e = none_when (λ h. false≢true (sym e ∙ h.mark))
+pub short : (bs : List ℕ) → length bs < 6 → None ≡ sentence bs
+short bs h = sym (headless bs (λ head. let long = read_in bs 5 (name_some _ head.n5) in omega arith))
 
-  pub unnamed : (k : ℕ) → (Headed (bytes_from cs p) → name_char (get_or (bytes_from cs p) k 0) ≡ true) → named (bytes_from cs (p + k)) ≡ None → None ≡ sentence (bytes_from cs p)
-  unnamed k asks e =
-      none_when (λ h.
-      let b = get_or (bytes_from cs p) k 0 in
-      let there = byte_in_lem cs p (p + k) k refl (read_in (bytes_from cs p) k (name_some b (asks h))) in
-      let found : named (bytes_from cs (p + k)) ≡ Some b = ap named (run_first cs (p + k) b there) ∙ cond-true (name_char b) _ _ (asks h) in
-      let z : ◌≡◌ {A = ℕ} 0 1 = cc in
-      omega arith)
+-- the exclusive-or of the five characters
+abbrev pub sum_of : List ℕ → ℕ
+sum_of bs = bit_xor (bit_xor (bit_xor (bit_xor (get_or bs 1 0) (get_or bs 2 0)) (get_or bs 3 0)) (get_or bs 4 0)) (get_or bs 5 0)
 
-  marked_run : dollar (bytes_from cs p) ≡ true → bytes_from cs p ≡ 36 ∷ bytes_from cs (p + 1)
-  marked_run e =
-      let is = eqb-true (get_or (bytes_from cs p) 0 0) 36 e in
-      let there = byte_in_lem cs p (p + 0) 0 refl (read_in (bytes_from cs p) 0 (omega arith)) in
-      run_first cs p 36 (ap (λ q. first (bytes_from cs q)) (sym (add-zero p)) ∙ there ∙ ap Some is)
+sums : (bs : List ℕ) → 6 ≤ length bs → name_sum bs ≡ sum_of bs
+sums [] h = absurd (omega arith)
+sums (s ∷ []) h = absurd (omega arith)
+sums (s ∷ a ∷ []) h = absurd (omega arith)
+sums (s ∷ a ∷ b ∷ []) h = absurd (omega arith)
+sums (s ∷ a ∷ b ∷ c ∷ []) h = absurd (omega arith)
+sums (s ∷ a ∷ b ∷ c ∷ d ∷ []) h = absurd (omega arith)
+sums (s ∷ a ∷ b ∷ c ∷ d ∷ e ∷ tail) h = refl
 
-  next_run : (k b : ℕ) → named (bytes_from cs (p + k)) ≡ Some b → bytes_from cs (p + k) ≡ b ∷ bytes_from cs (p + (k + 1))
-  next_run k b e = run_first cs (p + k) b (named_some (bytes_from cs (p + k)) b e).0 ∙ ap (λ q. b ∷ bytes_from cs q) (add_assoc p k 1)
+-- what follows the five characters was read
+module _ (bs rest : List ℕ) (long : 6 ≤ length bs) (is : rest ≡ drop 6 bs) where
+  told : tail_of (name_sum bs) (drop 6 bs) ≡ tail_of (sum_of bs) rest
+  told = λ j. tail_of (sums bs long j) (sym is j)
 
-  module _ (a b c d e : ℕ) (on : dollar (bytes_from cs p) ≡ true)
-      (ea : named (bytes_from cs (p + 1)) ≡ Some a)
-      (eb : named (bytes_from cs (p + 2)) ≡ Some b)
-      (ec : named (bytes_from cs (p + 3)) ≡ Some c)
-      (ed : named (bytes_from cs (p + 4)) ≡ Some d)
-      (ee : named (bytes_from cs (p + 5)) ≡ Some e) where
-    whole_run : bytes_from cs p ≡ 36 ∷ a ∷ b ∷ c ∷ d ∷ e ∷ bytes_from cs (p + 6)
-    whole_run =
-        marked_run on
-        ∙ ap (λ l. 36 ∷ l) (next_run 1 a ea ∙ ap (λ l. a ∷ l) (next_run 2 b eb ∙ ap (λ l. b ∷ l) (next_run 3 c ec ∙ ap (λ l. c ∷ l) (next_run 4 d ed ∙ ap (λ l. d ∷ l) (next_run 5 e ee)))))
+  pub tailless : tail_of (sum_of bs) rest ≡ None → None ≡ sentence bs
+  tailless e = sym (cond-false _ _ _ (and_right (is_head bs) _ (none_cond (is_tail (name_sum bs) (drop 6 bs)) _ (told ∙ e))))
 
-    abbrev sum : ℕ
-    sum = bit_xor (bit_xor (bit_xor (bit_xor a b) c) d) e
-
-    pub tailless : tail_of sum (bytes_from cs (p + 6)) ≡ None → None ≡ sentence (bytes_from cs p)
-    tailless f =
-        let head = is_head (36 ∷ a ∷ b ∷ c ∷ d ∷ e ∷ bytes_from cs (p + 6)) in
-        sym (ap sentence whole_run ∙ cond-false _ _ _ (and_right head _ (none_cond _ _ f)))
-
-    pub stand : (n : ℕ) → tail_of sum (bytes_from cs (p + 6)) ≡ Some n → Some (sentence_of n (c * 65536 + (d * 256 + e))) ≡ sentence (bytes_from cs p)
-    stand n f =
-        let tail = some_cond (is_tail sum (bytes_from cs (p + 6))) _ n f in
-        let ok : (k x : ℕ) → named (bytes_from cs (p + k)) ≡ Some x → name_char x ≡ true = λ k x h. (named_some (bytes_from cs (p + k)) x h).1 in
-        let head : is_head (36 ∷ a ∷ b ∷ c ∷ d ∷ e ∷ bytes_from cs (p + 6)) ≡ true = and_from _ _ (ok 1 a ea) (and_from _ _ (ok 2 b eb) (and_from _ _ (ok 3 c ec) (and_from _ _ (ok 4 d ed) (ok 5 e ee)))) in
-        sym (ap sentence whole_run ∙ cond-true _ _ _ (and_from _ _ head tail.0) ∙ ap (λ m. Some (sentence_of m (c * 65536 + (d * 256 + e)))) tail.1)
+  pub stands : is_head bs ≡ true → (n : ℕ) → tail_of (sum_of bs) rest ≡ Some n → Some (sentence_of n (tag_of bs)) ≡ sentence bs
+  stands head n e =
+      let tail = some_cond (is_tail (name_sum bs) (drop 6 bs)) _ n (told ∙ e) in
+      sym (cond-true _ _ _ (and_from _ _ head tail.0) ∙ ap (λ m. Some (sentence_of m (tag_of bs))) tail.1)

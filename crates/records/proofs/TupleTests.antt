@@ -1,31 +1,24 @@
 -- Where a tuple stands, told by what was read.
-use Rattle.std.proofs.Common.{◌≡◌, ℕ, zero, suc, ◌+◌, ◌*◌, ◌<◌, ◌≤◌, true, false, ◌&&◌, eqb, List, [], ◌∷◌, length, get_or, is_some, Some, None, Option, sym, refl, ap, ◌∙◌, ⊎_elim, le_of_suc-le-suc, not-suc-le-zero, arith}
-use Rattle.std.proofs.lemmas.Bool.{cases_Bool, cond-false, eqb-true, eq-eqb, and_right, and_from, and_parts, leb-true, leb-false, false≢true}
+use Rattle.std.proofs.Common.{◌≡◌, ℕ, ◌+◌, ◌*◌, ◌<◌, ◌≤◌, Bool, true, false, ◌&&◌, eqb, nat_eq, List, length, get_or, Some, None, Option, sym, refl, ap, ◌∙◌, ⊎_elim, arith}
+use Rattle.std.proofs.lemmas.List.{get_or_past}
+use Rattle.std.proofs.lemmas.Bool.{cases_Bool, cases_lt, cond-false, eqb-true, and_right, and_parts, leb-true, leb-false}
 use Rattle.recording.specs.declared.Cell.{Cell}
 use Rattle.records.specs.declared.kind.Record.{Record}
 use Rattle.records.specs.Grammars.{bytes_from, first, first_two}
 use Rattle.records.specs.Tuples.{pair_at, size_of, sync_mark, is_tuple, tuple}
 use Rattle.records.specs.TupleLaws.{Stood, when_stands, tuple_stands, found}
-use Rattle.records.proofs.Reading.{byte_next, pair_in, pair_next, some_first, whole_run}
+use Rattle.records.proofs.Reading.{byte_next, byte_end, pair_in, pair_next, some_first, whole_run}
 use Rattle.recording.specs.Cells.{whole_from}
-use Rattle.std.specs.Option.{option_map}
+use Rattle.std.specs.Option.{option_map, option_eq}
+use Rattle.std.specs.Bool.{then_some}
 
 -- an element that is not 0 is of the list
 pub read_in : (bs : List ℕ) (i : ℕ) → 0 < get_or bs i 0 → i + 1 ≤ length bs
-read_in [] zero h = absurd (not-suc-le-zero h)
-read_in [] (suc i) h = absurd (not-suc-le-zero h)
-read_in (b ∷ bs) zero h = omega arith
-read_in (b ∷ bs) (suc i) h = omega (arith, read_in bs i h)
-
-past_end : (bs : List ℕ) (i : ℕ) → length bs ≤ i → get_or bs i 0 ≡ 0
-past_end [] zero h = refl
-past_end [] (suc i) h = refl
-past_end (b ∷ bs) zero h = absurd (not-suc-le-zero h)
-past_end (b ∷ bs) (suc i) h = past_end bs i (le_of_suc-le-suc h)
+read_in bs i h = ⊎_elim (λ lt. omega arith) (λ ge. let none = get_or_past bs i 0 ge in absurd (omega arith)) (cases_lt i (length bs))
 
 module _ (cs : List Cell) (p : ℕ) where
   pub no_mark : length (bytes_from cs p) ≤ 1 → sync_mark (bytes_from cs p) ≡ false
-  no_mark h = and_right _ _ (ap (λ b. eqb b 128) (past_end (bytes_from cs p) 1 h))
+  no_mark h = and_right _ _ (ap (λ b. eqb b 128) (get_or_past (bytes_from cs p) 1 0 h))
 
   pub mark : (a b : ℕ) → first (bytes_from cs p) ≡ Some a → a ≡ 0 → first (bytes_from cs (p + 1)) ≡ Some b → eqb b 128 ≡ sync_mark (bytes_from cs p)
   mark a b e z f =
@@ -33,12 +26,17 @@ module _ (cs : List Cell) (p : ℕ) where
       let next = byte_next cs p (p + 1) 1 refl b front.0 f in
       λ j. eqb ((sym z ∙ sym front.1) j) 0 && eqb (sym next.1 j) 128
 
+  -- with the first byte read as 0, the second decides
+  pub mark_by : first (bytes_from cs p) ≡ Some 0 → (o : Option ℕ) → first (bytes_from cs (p + 1)) ≡ o → option_eq nat_eq o (Some 128) ≡ sync_mark (bytes_from cs p)
+  mark_by e None f =
+      let one = (some_first (bytes_from cs p) 0 e).0 in
+      let end = byte_end cs p (p + 1) 1 refl one f in
+      sym (no_mark (omega arith))
+  mark_by e (Some b) f = mark 0 b e refl f
+
   pub none_when : (Stood (bytes_from cs p) → ⊥) → None ≡ tuple (bytes_from cs p)
   none_when not =
       ⊎_elim (λ e. absurd (not (when_stands (bytes_from cs p) e))) (λ e. sym (cond-false (is_tuple (bytes_from cs p)) _ _ e)) (cases_Bool (is_tuple (bytes_from cs p)))
-
-  pub unmarked : sync_mark (bytes_from cs p) ≡ false → None ≡ tuple (bytes_from cs p)
-  unmarked e = none_when (λ h. let on = and_from _ _ (eq-eqb _ _ h.first_sync) (eq-eqb _ _ h.last_sync) in absurd (false≢true (sym e ∙ on)))
 
   pub unread : (k : ℕ) → k ≤ 14 → first_two (bytes_from cs (p + k)) ≡ None → None ≡ tuple (bytes_from cs p)
   unread k h e = none_when (λ s. let f = pair_in cs p (p + k) k refl (omega (arith, s.whole)) in let z : ◌≡◌ {A = ℕ} 0 1 = cc in omega arith)
@@ -79,6 +77,12 @@ module _ (cs : List Cell) (p : ℕ) where
         } in
         sym (ap (option_map (λ x. x.length)) (tuple_stands (bytes_from cs p) stood) ∙ ap (λ n. Some (n + 16)) head.1)
 
+    -- with both sizes read and alike, the rest of the cells decides
+    pub decided : (v : ℕ) → sync_mark (bytes_from cs p) ≡ true → first_two (bytes_from cs (p + (s + 14))) ≡ Some v → v ≡ s → (b : Bool) → b ≡ whole_from cs p (s + 16)
+        → then_some b (s + 16) ≡ option_map (λ x. x.length) (tuple (bytes_from cs p))
+    decided v on again same true e = stands v on again same (sym e)
+    decided v on again same false e = ap (option_map (λ x. x.length)) (broken (sym e))
+
   -- a tuple of which the length is known
   module _ (n : ℕ) (told : Some n ≡ option_map (λ x. x.length) (tuple (bytes_from cs p))) where
     known : (x : Record) × (tuple (bytes_from cs p) ≡ Some x) × (n ≡ x.length)
@@ -106,7 +110,3 @@ module _ (cs : List Cell) (p : ℕ) where
         let r8 = two 8 d (omega arith) at8 in
         let r10 = two 10 f (omega arith) at10 in
         sym (tuple_stands (bytes_from cs p) w.0 ∙ ap Some (λ j. record { length = size j; tag = r6 j; source_type = r2 j; source_id = r4 j; time = r8 j + 65536 * r10 j }))
-
--- no tuple, and so no length
-pub none_long : {r : Option ℕ} {o : Option Record} {P : Type 0} → r ≡ None → None ≡ o → (r ≡ option_map (λ x. x.length) o) × (is_some r ≡ true → P)
-none_long e f = (e ∙ ap (option_map (λ x. x.length)) f, λ t. absurd (false≢true (sym (ap is_some e) ∙ t)))

@@ -1,4 +1,5 @@
 pub mod Records
+pub mod Lines
 pub mod Grammars
 pub mod GrammarLaws
 pub mod Tuples

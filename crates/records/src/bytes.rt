@@ -1,22 +1,13 @@
 // The bytes at a place of a store.
 ghost use Rattle.std.specs.Prelude.{◌≡◌};
-ghost use Rattle.records.specs.Grammars.{bytes_from, held, first, first_two};
+ghost use Rattle.records.specs.Grammars.{bytes_from, first, first_two};
 
-use recording::{Cell, PastEnd, Store};
-
-fn byte_in(cell: Result<Cell, PastEnd>) -> Option<u8>
-    ensures { result ≡ held cell }
-{
-    match cell {
-        Ok(Cell::Byte(b)) => Some(b),
-        _ => None,
-    }
-}
+use recording::{Cell, Store};
 
 pub(crate) fn byte<S: Store>(store: &S, at: u32) -> Option<u8>
     ensures { result ≡ first (bytes_from (S.Store.cells store.now) at) }
 {
-    byte_in(store.cell(at))
+    store.cell(at).ok().and_then(Cell::byte)
 }
 
 // Two bytes, the lower first.
@@ -25,5 +16,5 @@ pub(crate) fn pair<S: Store>(store: &S, at: u32) -> Option<u16>
 {
     let low = byte(store, at)?;
     let high = byte(store, at + 1)?;
-    Some(u16::from(low) + 256 * u16::from(high))
+    Some(u16::from_le_bytes([low, high]))
 }

@@ -1,9 +1,11 @@
 // What a record kind is.
-ghost use Rattle.std.specs.Prelude.{◌≡◌, ℕ, ◌≤◌, length};
+ghost use Rattle.std.specs.Prelude.{◌≡◌, ℕ, ◌≤◌, length, Some};
+ghost use Rattle.records.specs.Lines.{record_text};
 ghost use Rattle.records.specs.Records.{Meaning, Laws, Vacant};
 ghost use Rattle.std.specs.Option.{option_map};
 
 use recording::Store;
+use std::fmt;
 
 // The five numbers of a record.
 #[derive(Clone, Copy, Debug, PartialEq, Eq)]
@@ -15,6 +17,21 @@ pub struct Record {
     pub time: u32,
 }
 
+impl fmt::Display for Record {
+    ghost output = { λ r. Some (record_text r) };
+
+    fn fmt<W: fmt::Write>(&self, f: &mut fmt::Formatter<W>) -> fmt::Result {
+        let Record {
+            length,
+            tag,
+            source_type,
+            source_id,
+            time,
+        } = *self;
+        write!(f, "{length} {tag} {source_type} {source_id} {time}")
+    }
+}
+
 // A record kind says where its records stand, and what each of them is.
 pub trait RecordKind {
     // the cells of the longest record
@@ -24,6 +41,7 @@ pub trait RecordKind {
 
     ghost laws: { (k : Self) → Laws longest (stands k) };
 
+    // A constant would be no plainer: each impl would give it twice, as a ghost member and as a value.
     fn longest(&self) -> u32
         ensures { result ≡ longest };
 

@@ -1,45 +1,35 @@
 // Sentences of NMEA 0183: `$`, five characters, nothing or a comma and a text, `*`, two digits, CR, LF.
-ghost use Rattle.std.specs.Prelude.{◌≡◌, ℕ, ◌+◌, ◌^◌, ◌<◌, true, length};
+ghost use Rattle.std.specs.Prelude.{◌≡◌, ℕ, ◌<◌, ◌≤◌, cond, ◌&&◌, Some, None, take};
 ghost use Rattle.records.specs.Grammars.{bytes_from, meaning};
-ghost use Rattle.records.specs.Sentences.{name_char, text_char, char_at, hex_digit, begins};
-ghost use Rattle.records.specs.Sentences.{named, dollar, tail_of, sentence};
+ghost use Rattle.records.specs.Sentences.{name_char, text_char, is_text, xored, hex_digit, closing, begins};
+ghost use Rattle.records.specs.Sentences.{tail_of, sentence};
 ghost use Rattle.records.specs.SentenceLaws.{sentence_laws};
 
 use crate::bytes::byte;
 use crate::kind::{Record, RecordKind};
-use crate::search::Pair;
+use memchr::memchr;
 use recording::Store;
+
+// The most bytes of a sentence.
+const LONGEST: usize = 82;
 
 // The record kind of NMEA 0183 logs.
 #[derive(Clone, Copy, Debug)]
 pub struct Sentences;
 
-// The byte that begins a sentence, and any other.
-const DOLLAR: Pair = Pair {
-    first: b'$',
-    second: 0,
-    mask: 0,
-};
-
 fn is_name(b: u8) -> bool
     ensures { result ≡ name_char b }
 {
-    (b'A' <= b && b <= b'Z') || (b'0' <= b && b <= b'9')
+    matches!(b, b'A'..=b'Z' | b'0'..=b'9')
 }
 
-fn is_text(b: u8) -> bool
+fn is_text_char(b: u8) -> bool
     ensures { result ≡ text_char b }
 {
-    0x20 <= b && b <= 0x7e && b != b'$' && b != b'!' && b != b'*'
+    matches!(b, 0x20..=0x7e) && b != b'$' && b != b'!' && b != b'*'
 }
 
-// A comma comes first, and then characters.
-fn allowed(k: u32, b: u8) -> bool
-    ensures { result ≡ char_at k b }
-{
-    if k == 0 { b == b',' } else { is_text(b) }
-}
-
+// No plainer by char::from_digit, whose letters are lower case.
 fn digit(n: u8) -> u8
     requires { n < 16 }
     ensures { result ≡ hex_digit n }
@@ -47,90 +37,112 @@ fn digit(n: u8) -> u8
     if n < 10 { n + b'0' } else { n - 10 + b'A' }
 }
 
-fn name_char<S: Store>(store: &S, at: u32) -> Option<u8>
-    ensures { result ≡ named (bytes_from (S.Store.cells store.now) at) }
+// Whether the digits of the sum, CR and LF come first.
+fn closes(rest: &[u8], sum: u8) -> bool
+    ensures { result ≡ begins (closing sum) rest.now }
 {
-    let b = byte(store, at)?;
-    if is_name(b) { Some(b) } else { None }
+    let [high, low, cr, lf, ..] = rest else {
+        return false;
+    };
+    *high == digit(sum / 16) && *low == digit(sum % 16) && *cr == b'\r' && *lf == b'\n'
 }
 
-// Whether the bytes at a place begin with a text.
-fn spells<S: Store>(store: &S, at: u32, text: &[u8]) -> bool
-    requires { at + length text.now < 2 ^ 32 }
-    ensures { result ≡ begins text.now (bytes_from (S.Store.cells store.now) at) }
+// Whether a comma comes first, or nothing.
+fn comma_first(text: &[u8]) -> bool
+    ensures { result ≡ is_text (take 1 text.now) }
 {
-    let mut place = at;
-    for x in text {
-        let Some(b) = byte(store, place) else {
-            return false;
-        };
-        if b != *x {
-            return false;
-        }
-        place += 1;
+    text.first().is_none_or(|b| *b == b',')
+}
+
+// The exclusive-or of a number and a text, if the bytes are one. Every byte is judged, whatever was found before it:
+// so many are judged at once.
+fn text_sum(text: &[u8], name_sum: u8) -> Option<u8>
+    ensures { result ≡ cond (is_text text.now) (Some (xored name_sum text.now)) None }
+{
+    let mut sum = name_sum;
+    let mut good = true;
+    for b in text {
+        sum ^= *b;
+        good &= is_text_char(*b);
     }
-    true
+    (good && comma_first(text)).then_some(sum)
 }
 
 // What stands after a sentence's five characters, whose sum is given: the length of the whole sentence.
-fn tail_at<S: Store>(store: &S, at: u32, name_sum: u8) -> Option<u32>
-    requires { at < 2147483655 }
-    ensures { result ≡ tail_of name_sum (bytes_from (S.Store.cells store.now) at) }
+#[inline(never)]
+fn tail_length(rest: &[u8], name_sum: u8) -> Option<u32>
+    ensures { result ≡ tail_of name_sum rest.now }
 {
-    let mut sum = name_sum;
-    let mut k = 0;
-    while k < 72 {
-        let b = byte(store, at + k)?;
-        if b == b'*' {
-            return if spells(
-                store,
-                at + k + 1,
-                &[digit(sum / 16), digit(sum % 16), b'\r', b'\n'],
-            ) {
-                Some(k + 11)
-            } else {
-                None
-            };
-        }
-        if !allowed(k, b) {
-            return None;
-        }
-        sum ^= b;
-        k += 1;
-    }
-    None
+    let star = memchr(b'*', &rest[..rest.len().min(72)])?;
+    let sum = text_sum(&rest[..star], name_sum)?;
+    closes(&rest[star + 1..], sum).then_some(star as u32 + 11)
 }
 
-// Whether a sentence's first byte stands at a place.
-fn marked<S: Store>(store: &S, at: u32) -> bool
-    ensures is { result ≡ dollar (bytes_from (S.Store.cells store.now) at) }
-    ensures within { result ≡ true → at < 2147483647 }
+// Whether all five may stand in an address.
+fn is_address(a: u8, b: u8, c: u8, d: u8, e: u8) -> bool
+    ensures { result ≡ (name_char a && (name_char b && (name_char c && (name_char d && name_char e)))) }
 {
-    match byte(store, at) {
-        Some(b) => b == b'$',
-        None => false,
-    }
+    is_name(a) && is_name(b) && is_name(c) && is_name(d) && is_name(e)
 }
 
-fn sentence_at<S: Store>(store: &S, at: u32) -> Option<Record>
-    ensures { result ≡ meaning sentence (S.Store.cells store.now) at }
+// The sentence at the front of the bytes. The tag names the last three of the five characters.
+#[inline(always)]
+fn front_sentence(bytes: &[u8]) -> Option<Record>
+    ensures { result ≡ sentence bytes.now }
 {
-    if !marked(store, at) {
+    let [s, a, b, c, d, e, rest @ ..] = bytes else {
+        return None;
+    };
+    if *s != b'$' || !is_address(*a, *b, *c, *d, *e) {
         return None;
     }
-    let a = name_char(store, at + 1)?;
-    let b = name_char(store, at + 2)?;
-    let c = name_char(store, at + 3)?;
-    let d = name_char(store, at + 4)?;
-    let e = name_char(store, at + 5)?;
-    let length = tail_at(store, at + 6, a ^ b ^ c ^ d ^ e)?;
+    let length = tail_length(rest, *a ^ *b ^ *c ^ *d ^ *e)?;
     Some(Record {
         length,
-        tag: c as u32 * 65536 + (d as u32 * 256 + e as u32),
+        // from_be_bytes of four would be no plainer: there are three
+        tag: *c as u32 * 65536 + (*d as u32 * 256 + *e as u32),
         source_type: 0,
         source_id: 0,
         time: 0,
     })
+}
+
+// Copies the bytes from a place on, up to the longest sentence or the next lost cell: how many they are.
+fn front<S: Store>(store: &S, at: u32, bytes: &mut [u8; LONGEST]) -> usize
+    ensures within { result ≤ 82 }
+    ensures front { take result bytes.new ≡ take 82 (bytes_from (S.Store.cells store.now) at) }
+{
+    // a range, since the place in the store counts with the place in the array: a chain would be no plainer
+    for i in 0..LONGEST {
+        let Some(b) = byte(store, at + i as u32) else {
+            return i;
+        };
+        bytes[i] = b;
+    }
+    LONGEST
+}
+
+// The sentence at a place of which the store has too few bytes at hand.
+#[cold]
+fn copied_sentence<S: Store>(store: &S, at: u32) -> Option<Record>
+    ensures { result ≡ meaning sentence (S.Store.cells store.now) at }
+{
+    // on the stack, since nothing here allocates
+    let mut bytes = [0u8; LONGEST];
+    let n = front(store, at, &mut bytes);
+    front_sentence(&bytes[..n])
+}
+
+// The sentence at a place: told by the bytes that the store has at hand, or by a copy of them.
+fn sentence_at<S: Store>(store: &S, at: u32) -> Option<Record>
+    ensures { result ≡ meaning sentence (S.Store.cells store.now) at }
+{
+    let run = store.run(at);
+    if run.len() < LONGEST {
+        copied_sentence(store, at)
+    } else {
+        front_sentence(run)
+    }
 }
 
 impl RecordKind for Sentences {
@@ -145,10 +157,7 @@ impl RecordKind for Sentences {
     }
 
     fn test<S: Store>(&self, store: &S, at: u32) -> Option<u32> {
-        match sentence_at(store, at) {
-            Some(x) => Some(x.length),
-            None => None,
-        }
+        self.record(store, at).map(|x| x.length)
     }
 
     fn record<S: Store>(&self, store: &S, at: u32) -> Option<Record> {
@@ -157,6 +166,9 @@ impl RecordKind for Sentences {
 
     // No sentence begins where no `$` stands.
     fn vacant(&self, run: &[u8]) -> usize {
-        DOLLAR.missing(run)
+        if run.first() == Some(&b'$') {
+            return 0;
+        }
+        memchr(b'$', run).unwrap_or(run.len())
     }
 }

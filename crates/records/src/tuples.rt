@@ -18,7 +18,6 @@ pub struct Tuples;
 const SYNC: Pair = Pair {
     first: 0x00,
     second: 0x80,
-    mask: 0xff,
 };
 
 const HEADER: u32 = 14;
@@ -27,20 +26,12 @@ const HEADER: u32 = 14;
 const FRAME: u32 = 16;
 
 // Whether the two bytes that begin a tuple stand at the place.
+// That the place is within is said of a true answer alone: a type with the bound would be no plainer.
 fn synced<S: Store>(store: &S, at: u32) -> bool
     ensures is { result ≡ sync_mark (bytes_from (S.Store.cells store.now) at) }
     ensures within { result ≡ true → at < 2147483647 }
 {
-    let Some(low) = byte(store, at) else {
-        return false;
-    };
-    if low != 0 {
-        return false;
-    }
-    let Some(high) = byte(store, at + 1) else {
-        return false;
-    };
-    high == 0x80
+    byte(store, at) == Some(0x00) && byte(store, at + 1) == Some(0x80)
 }
 
 // The length of the tuple that stands at the place. The footer is tried before the body.
@@ -53,17 +44,11 @@ fn tuple_length<S: Store>(store: &S, at: u32) -> Option<u32>
     }
     let size = pair(store, at + 12)?;
     let again = pair(store, at + (size as u32 + HEADER))?;
-    if again != size {
-        return None;
-    }
     let length = size as u32 + FRAME;
-    if store.whole(at, length) {
-        Some(length)
-    } else {
-        None
-    }
+    (again == size && store.whole(at, length)).then_some(length)
 }
 
+// A loop over the five numbers would be no plainer: each has a name of its own.
 fn tuple_at<S: Store>(store: &S, at: u32) -> Option<Record>
     ensures { result ≡ meaning tuple (S.Store.cells store.now) at }
 {
@@ -75,10 +60,10 @@ fn tuple_at<S: Store>(store: &S, at: u32) -> Option<Record>
     let high_time = pair(store, at + 10)?;
     Some(Record {
         length,
-        tag: data_type as u32,
+        tag: u32::from(data_type),
         source_type,
         source_id,
-        time: low_time as u32 + 65536 * high_time as u32,
+        time: u32::from(high_time) << 16 | u32::from(low_time),
     })
 }
 

@@ -1,51 +1,34 @@
-// What an index answers, as text.
+// What calls answer, as text. Functions and no Display: the types are of other crates, and the words the console's.
 use indexfile::row::Row;
 use layouts::settings::Counter;
-use listing::answer::{Answer, Cleared, Finding, Inspected, Scanned, Stop};
-use records::kind::Record;
+use lister::refusal_line;
+use listing::answer::{Answer, Finding, Scanned, Stop};
 use refusals::Refusal;
 use std::alloc::{AllocError, Global};
+use std::fmt;
 
-pub fn refused<R: Refusal>(heap: Global, refusal: &R) -> Result<String, AllocError> {
-    let number = refusal.number();
-    let place = refusal.place();
-    format!(in heap; "refused {number} {place}")
-}
-
-pub fn row_text(heap: Global, row: Row) -> Result<String, AllocError> {
-    let Row {
-        place,
-        length,
-        tag,
-        source_type,
-        source_id,
-        time,
-    } = row;
-    format!(in heap; "{place} {length} {tag} {source_type} {source_id} {time}")
-}
-
-pub fn record_text(heap: Global, record: Record) -> Result<String, AllocError> {
-    let Record {
-        length,
-        tag,
-        source_type,
-        source_id,
-        time,
-    } = record;
-    format!(in heap; "{length} {tag} {source_type} {source_id} {time}")
+// The text of what was answered, or the line of the refusal.
+pub fn told<T: Drop, R: Refusal + Drop, F: FnOnce(Global, T) -> Result<String, AllocError> + Drop>(
+    heap: Global,
+    answer: Result<T, R>,
+    text: F,
+) -> Result<String, AllocError>
+    requires { F.IsAlwaysCallable text }
+{
+    match answer {
+        Ok(x) => text(heap, x),
+        Err(refusal) => refusal_line(heap, &refusal),
+    }
 }
 
 // The rows with semicolons between them, or `-` for none.
 pub fn rows_text(heap: Global, rows: &[Row]) -> Result<String, AllocError> {
-    let mut text = String::new(heap);
-    for row in rows {
-        if !text.is_empty() {
-            text.push_str("; ")?;
-        }
-        text.push_str(row_text(heap, *row)?.as_str())?;
-    }
-    if text.is_empty() {
-        text.push('-')?;
+    let Some((first, others)) = rows.split_first() else {
+        return String::from_str(heap, "-");
+    };
+    let mut text = first.to_string(heap)?;
+    for row in others {
+        write!(text, "; {row}")?;
     }
     Ok(text)
 }
@@ -56,15 +39,14 @@ fn scanned_text(heap: Global, scanned: Scanned) -> Result<String, AllocError> {
         Stop::Spent => "spent",
         Stop::Full => "full",
     };
-    let tests = scanned.tests;
-    let added = scanned.added;
+    let Scanned { tests, added, .. } = scanned;
     format!(in heap; "ok {stop} {tests} {added}")
 }
 
-fn cleared_text(heap: Global, cleared: Cleared) -> Result<String, AllocError> {
-    match cleared {
-        Cleared::Yes => String::from_str(heap, "ok yes"),
-        Cleared::Crossed(place) => format!(in heap; "ok crossed {place}"),
+fn cleared_text(heap: Global, crossing: Option<u32>) -> Result<String, AllocError> {
+    match crossing {
+        None => String::from_str(heap, "ok yes"),
+        Some(place) => format!(in heap; "ok crossed {place}"),
     }
 }
 
@@ -75,34 +57,29 @@ fn settled_text(heap: Global, counter: Counter) -> Result<String, AllocError> {
     }
 }
 
-fn finding_text(heap: Global, finding: Finding) -> Result<String, AllocError> {
-    let row = finding.row;
-    let data_type = finding.fault.data_type;
-    let number = finding.number();
-    let place = finding.place();
-    format!(in heap; "ok finding {row} {data_type} {number} {place}")
+fn inspected_text(heap: Global, found: Option<Finding>) -> Result<String, AllocError> {
+    match found {
+        None => String::from_str(heap, "ok sound"),
+        Some(finding) => {
+            let row = finding.row;
+            let data_type = finding.fault.data_type;
+            let notice = finding.notice();
+            format!(in heap; "ok finding {row} {data_type} {notice}")
+        }
+    }
 }
 
-fn inspected_text(heap: Global, inspected: Inspected) -> Result<String, AllocError> {
-    match inspected {
-        Inspected::Sound => String::from_str(heap, "ok sound"),
-        Inspected::Found(finding) => finding_text(heap, finding),
-    }
+pub fn ok_text<T: fmt::Display + Drop>(heap: Global, x: T) -> Result<String, AllocError> {
+    format!(in heap; "ok {x}")
 }
 
 pub fn answer_text(heap: Global, answer: Answer) -> Result<String, AllocError> {
     match answer {
-        Answer::Scan(Ok(scanned)) => scanned_text(heap, scanned),
-        Answer::Scan(Err(refusal)) => refused(heap, &refusal),
-        Answer::Clear(Ok(cleared)) => cleared_text(heap, cleared),
-        Answer::Clear(Err(refusal)) => refused(heap, &refusal),
-        Answer::Fetch(Ok(length)) => format!(in heap; "ok {length}"),
-        Answer::Fetch(Err(refusal)) => refused(heap, &refusal),
-        Answer::Settle(Ok(counter)) => settled_text(heap, counter),
-        Answer::Settle(Err(refusal)) => refused(heap, &refusal),
-        Answer::Inspect(Ok(inspected)) => inspected_text(heap, inspected),
-        Answer::Inspect(Err(refusal)) => refused(heap, &refusal),
-        Answer::Save(Ok(length)) => format!(in heap; "ok {length}"),
-        Answer::Save(Err(refusal)) => refused(heap, &refusal),
+        Answer::Scan(answer) => told(heap, answer, scanned_text),
+        Answer::Clear(answer) => told(heap, answer, cleared_text),
+        Answer::Fetch(answer) => told(heap, answer, ok_text),
+        Answer::Settle(answer) => told(heap, answer, settled_text),
+        Answer::Inspect(answer) => told(heap, answer, inspected_text),
+        Answer::Save(answer) => told(heap, answer, ok_text),
     }
 }

@@ -1,78 +1,60 @@
 // Answers about fields of bodies.
-use crate::answer::refused;
-use crate::hex::{bytes_of, push_hex};
+use crate::digits::hex_text;
 use crate::words::Words;
+use fields::fault::FieldFault;
 use fields::read::{Field, field_place, read_field};
 use fields::set::set_field;
-use refusals::Refusal;
+use lister::refusal_line;
 use std::alloc::{AllocError, Global};
 
-fn field_line(heap: Global, t: u32, body: &[u8], n: usize) -> Result<String, AllocError> {
-    match read_field(t, body, n) {
-        Ok(Field::Number(x)) => format!(in heap; "ok number {x}"),
-        Ok(Field::Signed(x)) => format!(in heap; "ok signed {x}"),
-        Ok(Field::Run(run)) => {
-            let mut text = String::from_str(heap, "ok run ")?;
-            push_hex(&mut text, run)?;
-            if let Ok((at, _)) = field_place(t, body, n) {
-                let end = at.saturating_add(run.len());
-                text.push_str(format!(in heap; " {at} {end}")?.as_str())?;
-            }
-            Ok(text)
-        }
-        Err(fault) => refused(heap, &fault),
+// A run, and where in the body it begins and ends.
+fn run_line(heap: Global, run: &[u8], at: usize) -> Result<String, AllocError> {
+    let text = hex_text(heap, run)?;
+    let end = at.saturating_add(run.len());
+    format!(in heap; "ok run {text} {at} {end}")
+}
+
+fn read_line(heap: Global, t: u32, body: &[u8], n: usize) -> Result<String, AllocError> {
+    match (read_field(t, body, n), field_place(t, body, n)) {
+        (Ok(Field::Number(x)), _) => format!(in heap; "ok number {x}"),
+        (Ok(Field::Signed(x)), _) => format!(in heap; "ok signed {x}"),
+        (Ok(Field::Run(run)), Ok((at, _))) => run_line(heap, run, at),
+        (Err(fault), _) | (_, Err(fault)) => refusal_line(heap, &fault),
     }
 }
 
-fn set_line(
-    heap: Global,
-    t: u32,
-    body: &mut [u8],
-    n: usize,
-    value: Field<'_>,
-) -> Result<String, AllocError> {
-    let mut text = match set_field(t, body, n, value) {
-        Ok(()) => String::from_str(heap, "ok")?,
-        Err(fault) => refused(heap, &fault)?,
-    };
-    text.push(' ')?;
-    push_hex(&mut text, body)?;
-    Ok(text)
+fn set_line(heap: Global, set: Result<(), FieldFault>, body: &[u8]) -> Result<String, AllocError> {
+    let body = hex_text(heap, body)?;
+    match set {
+        Ok(()) => format!(in heap; "ok {body}"),
+        Err(fault) => {
+            let refused = refusal_line(heap, &fault)?;
+            format!(in heap; "{refused} {body}")
+        }
+    }
 }
 
-// The answer to a field that is read or set, if the line does so.
-pub fn field_answer(heap: Global, line: &str) -> Option<String> {
-    let mut words = Words::of(line);
-    let name = words.word()?;
-    let t = words.number()?;
+// A field that is read.
+pub fn field_answer(heap: Global, words: &mut Words<'_>) -> Option<String> {
+    let t = words.parsed()?;
+    let body = words.bytes(heap)?;
+    let n = words.parsed::<u32>()? as usize;
+    read_line(heap, t, &body, n).ok()
+}
+
+// A field that is set, and the body after it.
+pub fn set_answer(heap: Global, words: &mut Words<'_>) -> Option<String> {
+    let t = words.parsed()?;
     let mut body = words.bytes(heap)?;
-    let n = words.number()? as usize;
-    if name == "field" {
-        return field_line(heap, t, &body, n).ok();
-    }
-    let sort = words.word()?;
-    let word = words.word()?;
-    match sort {
-        "number" => set_line(
-            heap,
-            t,
-            &mut body,
-            n,
-            Field::Number(word.parse::<u64>().ok()?),
-        )
-        .ok(),
-        "signed" => set_line(
-            heap,
-            t,
-            &mut body,
-            n,
-            Field::Signed(word.parse::<i64>().ok()?),
-        )
-        .ok(),
+    let n = words.parsed::<u32>()? as usize;
+    let set = match words.word()? {
+        "number" => set_field(t, &mut body, n, Field::Number(words.parsed()?)),
+        "signed" => set_field(t, &mut body, n, Field::Signed(words.parsed()?)),
         "run" => {
-            let run = bytes_of(heap, word)?;
-            set_line(heap, t, &mut body, n, Field::Run(&run)).ok()
+            let run = words.bytes(heap)?;
+            set_field(t, &mut body, n, Field::Run(&run))
         }
-        _ => None,
-    }
+        _ => return None,
+    };
+    set_line(heap, set, &body).ok()
 }

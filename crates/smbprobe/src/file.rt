@@ -1,39 +1,24 @@
 // Answers about the bytes of index files.
-use crate::answer::{refused, row_text};
+use crate::answer::{ok_text, told};
 use crate::words::Words;
+use indexfile::counts::Counts;
 use indexfile::file::{counts_in, row_in};
-use refusals::Refusal;
-use std::alloc::Global;
+use std::alloc::{AllocError, Global};
 
-fn counts_answer(heap: Global, file: &[u8]) -> Option<String> {
-    match counts_in(file) {
-        Ok(counts) => {
-            let rows = counts.rows;
-            let place = counts.place;
-            let skipped = counts.skipped;
-            format!(in heap; "ok {rows} {place} {skipped}").ok()
-        }
-        Err(refusal) => refused(heap, &refusal).ok(),
-    }
+fn counts_text(heap: Global, counts: Counts) -> Result<String, AllocError> {
+    let Counts {
+        rows,
+        place,
+        skipped,
+    } = counts;
+    format!(in heap; "ok {rows} {place} {skipped}")
 }
 
-fn row_answer(heap: Global, file: &[u8], n: u32) -> Option<String> {
-    match row_in(file, n) {
-        Ok(row) => {
-            let row = row_text(heap, row).ok()?;
-            format!(in heap; "ok {row}").ok()
-        }
-        Err(refusal) => refused(heap, &refusal).ok(),
-    }
+pub fn counts_answer(heap: Global, words: &mut Words<'_>) -> Option<String> {
+    told(heap, counts_in(&words.bytes(heap)?), counts_text).ok()
 }
 
-pub fn file_answer(heap: Global, line: &str) -> Option<String> {
-    let mut words = Words::of(line);
-    let name = words.word()?;
+pub fn row_answer(heap: Global, words: &mut Words<'_>) -> Option<String> {
     let file = words.bytes(heap)?;
-    match name {
-        "counts" => counts_answer(heap, &file),
-        "row" => row_answer(heap, &file, words.number()?),
-        _ => None,
-    }
+    told(heap, row_in(&file, words.parsed()?), ok_text).ok()
 }

@@ -25,12 +25,13 @@
 mod answer;
 mod body;
 mod console;
+mod digits;
 mod field;
 mod file;
-mod hex;
 mod output;
 mod session;
 mod setup;
+mod store;
 mod words;
 
 use console::Console;
@@ -41,6 +42,7 @@ fn main(rt: HostRuntime) -> io::Result<()> {
     let mut console = Console::new(&rt)?;
     let mut setup = Setup::new(rt.alloc());
     let mut back = None;
+    // counted, since no loop of this project may run forever
     for _ in 0..u64::MAX {
         let next = match back {
             Some(line) => Some(line),

@@ -1,58 +1,47 @@
 // Answers about tuples that are written, and taken apart again.
-use crate::answer::refused;
-use crate::hex::push_hex;
+use crate::answer::told;
+use crate::digits::hex_text;
 use crate::words::Words;
-use refusals::Refusal;
+use lister::refusal_line;
 use std::alloc::{AllocError, Global};
 use writing::header::Header;
 use writing::output::Output;
 use writing::refusal::PutError;
-use writing::tuple::open;
+use writing::tuple::{Tuple, open};
 
 // Puts a tuple into the output.
-pub fn put_answer(heap: Global, output: &mut Output, line: &str) -> Option<String> {
-    let mut words = Words::of(line);
-    let _ = words.word()?;
+pub fn put_answer(heap: Global, output: &mut Output, words: &mut Words<'_>) -> Option<String> {
     let header = Header {
-        source_type: words.short()?,
-        source_id: words.short()?,
-        data_type: words.short()?,
-        time: words.number()?,
+        source_type: words.parsed()?,
+        source_id: words.parsed()?,
+        data_type: words.parsed()?,
+        time: words.parsed()?,
     };
     let body = words.bytes(heap)?;
     match output.put(header, &body) {
         Ok(()) => String::from_str(heap, "ok").ok(),
-        Err(PutError::Refused(refusal)) => refused(heap, &refusal).ok(),
+        Err(PutError::Refused(refusal)) => refusal_line(heap, &refusal).ok(),
         Err(PutError::Memory) => None,
     }
 }
 
 pub fn out_answer(heap: Global, output: &Output) -> Option<String> {
-    let mut text = String::new(heap);
-    push_hex(&mut text, output.bytes()).ok()?;
-    Some(text)
+    hex_text(heap, output.bytes()).ok()
 }
 
-fn open_line(heap: Global, bytes: &[u8]) -> Result<String, AllocError> {
-    match open(bytes) {
-        Ok(tuple) => {
-            let Header {
-                source_type,
-                source_id,
-                data_type,
-                time,
-            } = tuple.header;
-            let mut text = format!(in heap; "ok {source_type} {source_id} {data_type} {time} ")?;
-            push_hex(&mut text, tuple.body)?;
-            Ok(text)
-        }
-        Err(refusal) => refused(heap, &refusal),
-    }
+fn tuple_text(heap: Global, tuple: Tuple<'_>) -> Result<String, AllocError> {
+    let Header {
+        source_type,
+        source_id,
+        data_type,
+        time,
+    } = tuple.header;
+    let body = hex_text(heap, tuple.body)?;
+    format!(in heap; "ok {source_type} {source_id} {data_type} {time} {body}")
 }
 
 // Takes a tuple apart.
-pub fn open_answer(heap: Global, line: &str) -> Option<String> {
-    let mut words = Words::of(line);
-    let _ = words.word()?;
-    open_line(heap, &words.bytes(heap)?).ok()
+pub fn open_answer(heap: Global, words: &mut Words<'_>) -> Option<String> {
+    let bytes = words.bytes(heap)?;
+    told(heap, open(&bytes), tuple_text).ok()
 }

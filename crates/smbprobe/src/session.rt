@@ -1,8 +1,11 @@
 // An open index with its table, and the commands that ask it.
-use crate::answer::{answer_text, record_text, rows_text};
-use crate::hex::push_hex;
+use crate::answer::{answer_text, rows_text};
+use crate::digits::hex_text;
+use crate::setup::Setup;
+use crate::store::Held;
 use crate::words::Words;
 use index::Index;
+use index::scan::row_of;
 use indexfile::row::Row;
 use listing::answer::Call;
 use recording::Store;
@@ -14,80 +17,56 @@ const FILL: u8 = 0xee;
 
 // The index owns one store, and `view` is another of the same recording.
 #[derive(Drop)]
-pub struct Session<S: Store + Drop, K: RecordKind + Drop> {
+pub struct Session<'a, K: RecordKind + Drop> {
     heap: Global,
-    view: S,
+    view: Held<'a>,
     kind: K,
-    index: Index<S, K>,
+    index: Index<Held<'a>, K>,
     table: Vec<Row>,
 }
 
-// A call, and the length of the buffer that it is given.
-#[derive(Clone, Copy)]
-struct Buffered {
-    call: Call,
-    buffer: Option<usize>,
-}
-
-impl Buffered {
-    fn read(name: &str, words: &mut Words<'_>) -> Option<Buffered> {
-        let call = match name {
-            "scan" => Call::Scan(words.number()?),
-            "clear" => Call::Clear(words.number()?),
-            "fetch" => Call::Fetch(words.number()?),
-            "settle" => Call::Settle(words.number()?),
-            "inspect" => Call::Inspect(words.number()?),
-            "save" => Call::Save,
-            _ => return None,
-        };
-        let buffer = match call {
-            Call::Fetch(_) | Call::Inspect(_) | Call::Save => Some(words.size()?),
-            _ => None,
-        };
-        Some(Buffered { call, buffer })
-    }
+// A call, and the length of the buffer that it is given, if it takes one.
+fn read_call(name: &str, words: &mut Words<'_>) -> Option<(Call, Option<usize>)> {
+    let call = match name {
+        "scan" => (Call::Scan(words.parsed()?), None),
+        "clear" => (Call::Clear(words.parsed()?), None),
+        "settle" => (Call::Settle(words.parsed()?), None),
+        "fetch" => (Call::Fetch(words.parsed()?), Some(words.size()?)),
+        "inspect" => (Call::Inspect(words.parsed()?), Some(words.size()?)),
+        "save" => (Call::Save, Some(words.size()?)),
+        _ => return None,
+    };
+    Some(call)
 }
 
 fn read_row(words: &mut Words<'_>) -> Option<Row> {
     Some(Row {
-        place: words.number()?,
-        length: words.number()?,
-        tag: words.number()?,
-        source_type: words.short()?,
-        source_id: words.short()?,
-        time: words.number()?,
+        place: words.parsed()?,
+        length: words.parsed()?,
+        tag: words.parsed()?,
+        source_type: words.parsed()?,
+        source_id: words.parsed()?,
+        time: words.parsed()?,
     })
 }
 
-pub fn blank_table(heap: Global, rows: usize) -> Result<Vec<Row>, AllocError> {
-    let blank = Row {
-        place: 0,
-        length: 0,
-        tag: 0,
-        source_type: 0,
-        source_id: 0,
-        time: 0,
-    };
-    vec![in heap; blank; rows]
-}
-
-impl<S: Store + Drop, K: RecordKind + Copy + Drop> Session<S, K> {
-    pub fn open(heap: Global, stores: (S, S), kind: K, table: Vec<Row>) -> Session<S, K> {
-        let (view, store) = stores;
+impl<'a, K: RecordKind + Copy + Drop> Session<'a, K> {
+    pub fn open(heap: Global, setup: &'a Setup, kind: K, table: Vec<Row>) -> Session<'a, K> {
         Session {
             heap,
-            view,
+            view: setup.store(),
             kind,
-            index: Index::open(store, kind),
+            index: Index::open(setup.store(), kind),
             table,
         }
     }
 
-    // The answer to a command, if it is one that an index answers.
+    // The answer to a command, if it is one that an index answers. A match, since each takes words of its own:
+    // a table of functions would be no plainer.
     pub fn answer(&mut self, line: &str) -> Option<String> {
         let mut words = Words::of(line);
         match words.word()? {
-            "test" => self.test(words.number()?),
+            "test" => self.test(words.parsed()?),
             "list" => self.list().ok(),
             "state" => self.state().ok(),
             "rows" => rows_text(self.heap, self.held()).ok(),
@@ -96,19 +75,22 @@ impl<S: Store + Drop, K: RecordKind + Copy + Drop> Session<S, K> {
                 self.set_row(n, read_row(&mut words)?)
             }
             "cut" => self.cut(words.size()?),
-            name => self.call(Buffered::read(name, &mut words)?).ok(),
+            name => {
+                let (call, buffer) = read_call(name, &mut words)?;
+                self.call(call, buffer).ok()
+            }
         }
     }
 
-    fn call(&mut self, made: Buffered) -> Result<String, AllocError> {
-        let mut buffer = vec![in self.heap; FILL; made.buffer.unwrap_or(0)]?;
-        let answer = self.index.visit(&mut self.table, &mut buffer, made.call);
-        let mut text = answer_text(self.heap, answer)?;
-        if made.buffer.is_some() {
-            text.push(' ')?;
-            push_hex(&mut text, &buffer)?;
+    fn call(&mut self, call: Call, length: Option<usize>) -> Result<String, AllocError> {
+        let mut buffer = vec![in self.heap; FILL; length.unwrap_or(0)]?;
+        let answer = self.index.visit(&mut self.table, &mut buffer, call);
+        let text = answer_text(self.heap, answer)?;
+        if length.is_none() {
+            return Ok(text);
         }
-        Ok(text)
+        let after = hex_text(self.heap, &buffer)?;
+        format!(in self.heap; "{text} {after}")
     }
 
     fn state(&self) -> Result<String, AllocError> {
@@ -120,12 +102,8 @@ impl<S: Store + Drop, K: RecordKind + Copy + Drop> Session<S, K> {
 
     // The rows held, as far as the table has them.
     fn held(&self) -> &[Row] {
-        let held = self.index.rows() as usize;
-        if held < self.table.len() {
-            &self.table[..held]
-        } else {
-            &self.table
-        }
+        let held = self.table.len().min(self.index.rows() as usize);
+        &self.table[..held]
     }
 
     fn set_row(&mut self, n: usize, row: Row) -> Option<String> {
@@ -140,7 +118,7 @@ impl<S: Store + Drop, K: RecordKind + Copy + Drop> Session<S, K> {
 
     fn test(&self, at: u32) -> Option<String> {
         match self.kind.record(&self.view, at) {
-            Some(record) => record_text(self.heap, record).ok(),
+            Some(record) => record.to_string(self.heap).ok(),
             None => String::from_str(self.heap, "nothing").ok(),
         }
     }
@@ -150,6 +128,7 @@ impl<S: Store + Drop, K: RecordKind + Copy + Drop> Session<S, K> {
         let mut rows = Vec::new(self.heap);
         let mut skipped = 0u32;
         let mut next = 0u32;
+        // every place is passed, since no loop of this project may run forever
         for place in 0..self.view.len() {
             if place < next {
                 continue;
@@ -157,14 +136,7 @@ impl<S: Store + Drop, K: RecordKind + Copy + Drop> Session<S, K> {
             match self.kind.record(&self.view, place) {
                 Some(x) => {
                     next = place.saturating_add(x.length);
-                    rows.push(Row {
-                        place,
-                        length: x.length,
-                        tag: x.tag,
-                        source_type: x.source_type,
-                        source_id: x.source_id,
-                        time: x.time,
-                    })?;
+                    rows.push(row_of(place, x))?;
                 }
                 None => skipped = skipped.saturating_add(1),
             }

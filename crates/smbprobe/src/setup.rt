@@ -1,21 +1,22 @@
 // The recording that is set up, and the store that holds it.
-use crate::answer::refused;
-use crate::body::body_answer;
+use crate::answer::told;
+use crate::body::{judge_answer, parts_answer};
 use crate::console::Console;
-use crate::field::field_answer;
-use crate::file::file_answer;
+use crate::field::{field_answer, set_answer};
+use crate::file::{counts_answer, row_answer};
 use crate::output::{open_answer, out_answer, put_answer};
-use crate::session::{Session, blank_table};
+use crate::session::Session;
+use crate::store::{Below, Held};
 use crate::words::Words;
+use indexfile::row::Row;
 use recording::extents::{Extent, Extents};
 use recording::plain::Plain;
-use recording::stretches::{MarkRefusal, Stretch, Stretches};
+use recording::stretches::{Stretch, Stretches};
 use recording::{Cell, Store};
 use records::kind::RecordKind;
 use records::sentences::Sentences;
 use records::tuples::Tuples;
-use refusals::Refusal;
-use std::alloc::Global;
+use std::alloc::{AllocError, Global};
 use std::io;
 use writing::output::Output;
 
@@ -29,46 +30,33 @@ pub struct Setup {
     output: Output,
 }
 
-fn stretched<S: Store>(below: S, lost: &[Stretch]) -> Stretches<S> {
-    let mut store = Stretches::new(below);
-    for stretch in lost {
-        let _ = store.mark(stretch.first, stretch.count);
+fn cell_text(heap: Global, cell: Cell) -> Result<String, AllocError> {
+    match cell {
+        Cell::Byte(b) => format!(in heap; "ok {b}"),
+        Cell::Lost => String::from_str(heap, "ok lost"),
     }
-    store
 }
 
-// What a store answers of itself.
-fn store_answer<S: Store>(heap: Global, store: &S, line: &str) -> Option<String> {
-    let mut words = Words::of(line);
-    match words.word()? {
-        "length" => {
-            let length = store.len();
-            format!(in heap; "{length}").ok()
-        }
-        "cell" => match store.cell(words.number()?) {
-            Ok(Cell::Byte(b)) => format!(in heap; "ok {b}").ok(),
-            Ok(Cell::Lost) => String::from_str(heap, "ok lost").ok(),
-            Err(refusal) => refused(heap, &refusal).ok(),
-        },
-        _ => None,
-    }
+fn done_text(heap: Global, _: ()) -> Result<String, AllocError> {
+    String::from_str(heap, "ok")
 }
 
 // Whether a line sets up another recording or opens an index.
+// Asked before `change`, since an open index ends before the recording changes: one match would be no plainer.
 fn sets_up(line: &str) -> bool {
-    match Words::of(line).word() {
-        Some("plain" | "extents" | "stretch" | "mark" | "open" | "newout" | "put") => true,
-        _ => false,
-    }
+    matches!(
+        Words::of(line).word(),
+        Some("plain" | "extents" | "stretch" | "mark" | "open" | "newout" | "put")
+    )
 }
 
 // Answers with an open index, until a line that sets up: that line, or none at the end of the input.
-fn serve<S: Store + Drop, K: RecordKind + Copy + Drop>(
+fn serve<K: RecordKind + Copy + Drop>(
     console: &mut Console<'_>,
     setup: &Setup,
-    session: Session<S, K>,
+    mut session: Session<'_, K>,
 ) -> io::Result<Option<String>> {
-    let mut session = session;
+    // counted, since no loop of this project may run forever
     for _ in 0..u64::MAX {
         let Some(line) = console.read()? else {
             return Ok(None);
@@ -76,10 +64,9 @@ fn serve<S: Store + Drop, K: RecordKind + Copy + Drop>(
         if sets_up(line.as_str()) {
             return Ok(Some(line));
         }
-        let answer = match session.answer(line.as_str()) {
-            Some(text) => Some(text),
-            None => setup.answer(console.heap(), line.as_str()),
-        };
+        let answer = session
+            .answer(line.as_str())
+            .or_else(|| setup.answer(console.heap(), line.as_str()));
         console.print(answer)?;
     }
     Ok(None)
@@ -105,15 +92,13 @@ impl Setup {
             return self.open(console, kind, rows);
         }
         let heap = console.heap();
-        let answer = match self.change(heap, line) {
-            Some(text) => Some(text),
-            None => self.answer(heap, line),
-        };
-        console.print(answer)?;
+        let changed = self.change(heap, line);
+        console.print(changed.or_else(|| self.answer(heap, line)))?;
         Ok(None)
     }
 
     // Sets up a recording, if the line does.
+    // A match, since each command takes words of its own: a table of functions would be no plainer.
     fn change(&mut self, heap: Global, line: &str) -> Option<String> {
         let mut words = Words::of(line);
         match words.word()? {
@@ -135,40 +120,41 @@ impl Setup {
                 self.lost = Some(Vec::new(heap));
             }
             "mark" => {
-                let first = words.number()?;
-                return self.mark(
-                    heap,
-                    Stretch {
-                        first,
-                        count: words.number()?,
-                    },
-                );
+                let stretch = Stretch {
+                    first: words.parsed()?,
+                    count: words.parsed()?,
+                };
+                return self.mark(heap, stretch);
             }
             "newout" => self.output = Output::new(heap),
-            "put" => return put_answer(heap, &mut self.output, line),
+            "put" => return put_answer(heap, &mut self.output, &mut words),
             _ => return None,
         }
         String::from_str(heap, "ok").ok()
     }
 
-    // Marks a stretch, if stretches can be marked.
-    fn mark(&mut self, heap: Global, stretch: Stretch) -> Option<String> {
-        match self.marked(self.lost.as_ref()?, stretch) {
-            Ok(()) => {
-                self.lost.as_mut()?.push(stretch).ok()?;
-                String::from_str(heap, "ok").ok()
+    // The store of the recording.
+    pub fn store(&self) -> Held<'_> {
+        let mut store = Stretches::new(match &self.rows {
+            None => Below::Bytes(Plain::new(&self.image)),
+            Some(rows) => Below::Rows(Extents::new(&self.image, rows)),
+        });
+        if let Some(lost) = &self.lost {
+            for stretch in lost {
+                let _ = store.mark(*stretch);
             }
-            Err(refusal) => refused(heap, &refusal).ok(),
         }
+        store
     }
 
-    fn marked(&self, lost: &[Stretch], next: Stretch) -> Result<(), MarkRefusal> {
-        match &self.rows {
-            None => stretched(Plain::new(&self.image), lost).mark(next.first, next.count),
-            Some(rows) => {
-                stretched(Extents::new(&self.image, rows), lost).mark(next.first, next.count)
-            }
+    // Marks a stretch, if stretches can be marked.
+    fn mark(&mut self, heap: Global, stretch: Stretch) -> Option<String> {
+        let marked = self.store().mark(stretch);
+        let lost = self.lost.as_mut()?;
+        if marked.is_ok() {
+            lost.push(stretch).ok()?;
         }
+        told(heap, marked, done_text).ok()
     }
 
     // What is answered without an index.
@@ -176,33 +162,23 @@ impl Setup {
         let mut words = Words::of(line);
         match words.word()? {
             "check" => self.check(heap),
-            "length" | "cell" => self.store_answer(heap, line),
-            "counts" | "row" => file_answer(heap, line),
-            "field" | "set" => field_answer(heap, line),
+            "length" => self.store().len().to_string(heap).ok(),
+            "cell" => told(heap, self.store().cell(words.parsed()?), cell_text).ok(),
+            "counts" => counts_answer(heap, &mut words),
+            "row" => row_answer(heap, &mut words),
+            "field" => field_answer(heap, &mut words),
+            "set" => set_answer(heap, &mut words),
             "out" => out_answer(heap, &self.output),
-            "opent" => open_answer(heap, line),
-            _ => body_answer(heap, line),
+            "opent" => open_answer(heap, &mut words),
+            "judge" => judge_answer(heap, &mut words),
+            "parts" => parts_answer(heap, &mut words),
+            _ => None,
         }
     }
 
     fn check(&self, heap: Global) -> Option<String> {
-        match Extents::new(&self.image, self.rows.as_ref()?).check() {
-            Ok(()) => String::from_str(heap, "ok").ok(),
-            Err(refusal) => refused(heap, &refusal).ok(),
-        }
-    }
-
-    fn store_answer(&self, heap: Global, line: &str) -> Option<String> {
-        let plain = Plain::new(&self.image);
-        match (&self.rows, &self.lost) {
-            (None, None) => store_answer(heap, &plain, line),
-            (None, Some(lost)) => store_answer(heap, &stretched(plain, lost), line),
-            (Some(rows), None) => store_answer(heap, &Extents::new(&self.image, rows), line),
-            (Some(rows), Some(lost)) => {
-                let store = stretched(Extents::new(&self.image, rows), lost);
-                store_answer(heap, &store, line)
-            }
-        }
+        let rows = Extents::new(&self.image, self.rows.as_ref()?);
+        told(heap, rows.check(), done_text).ok()
     }
 
     fn open(
@@ -229,31 +205,8 @@ impl Setup {
         free: usize,
     ) -> io::Result<Option<String>> {
         let heap = console.heap();
-        let table = blank_table(heap, free)?;
+        let table = vec![in heap; Row::default(); free]?;
         console.print(String::from_str(heap, "ok").ok())?;
-        let plain = Plain::new(&self.image);
-        match (&self.rows, &self.lost) {
-            (None, None) => {
-                let stores = (plain, plain);
-                serve(console, self, Session::open(heap, stores, kind, table))
-            }
-            (None, Some(lost)) => {
-                let stores = (stretched(plain, lost), stretched(plain, lost));
-                serve(console, self, Session::open(heap, stores, kind, table))
-            }
-            (Some(rows), None) => {
-                let pieces = Extents::new(&self.image, rows);
-                serve(
-                    console,
-                    self,
-                    Session::open(heap, (pieces, pieces), kind, table),
-                )
-            }
-            (Some(rows), Some(lost)) => {
-                let pieces = Extents::new(&self.image, rows);
-                let stores = (stretched(pieces, lost), stretched(pieces, lost));
-                serve(console, self, Session::open(heap, stores, kind, table))
-            }
-        }
+        serve(console, self, Session::open(heap, self, kind, table))
     }
 }

@@ -1,9 +1,9 @@
 // The words of a line.
-use crate::hex::bytes_of;
+use crate::digits::bytes_of;
 use layouts::settings::Counter;
 use recording::extents::Extent;
 use std::alloc::Global;
-use std::str::SplitWhitespace;
+use std::str::{FromStr, SplitWhitespace};
 
 // The most rows of a table, and the most bytes of a buffer.
 const MOST: usize = 2_097_152;
@@ -24,18 +24,18 @@ impl<'a> Words<'a> {
         self.rest.next()
     }
 
-    pub fn number(&mut self) -> Option<u32> {
-        self.word()?.parse::<u32>().ok()
-    }
-
-    pub fn short(&mut self) -> Option<u16> {
-        self.word()?.parse::<u16>().ok()
+    // A number, as its type allows.
+    pub fn parsed<T: FromStr>(&mut self) -> Option<T>
+    where
+        T::Err: Drop,
+    {
+        self.word()?.parse::<T>().ok()
     }
 
     // A length of a table or a buffer.
     pub fn size(&mut self) -> Option<usize> {
-        let size = self.number()? as usize;
-        if size <= MOST { Some(size) } else { None }
+        let size = self.parsed::<u32>()? as usize;
+        (size <= MOST).then_some(size)
     }
 
     pub fn bytes(&mut self, heap: Global) -> Option<Vec<u8>> {

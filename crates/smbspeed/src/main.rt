@@ -5,8 +5,9 @@
 
 use anyhow::{Context, anyhow};
 use index::Index;
+use index::scan::MOST;
 use indexfile::row::Row;
-use listing::answer::Stop;
+use listing::answer::{Scanned, Stop};
 use recording::Store;
 use recording::plain::Plain;
 use records::kind::RecordKind;
@@ -15,11 +16,8 @@ use records::tuples::Tuples;
 use std::time::Instant;
 use std::{env, fs};
 
-// The most tests of a scan, and the most rows of a table.
-const MOST: u32 = 65_536;
-
 // What a listing comes to: two listings with the same rows have the same sum.
-#[derive(Clone, Copy)]
+#[derive(Clone, Copy, Default)]
 struct Total {
     rows: u64,
     skipped: u64,
@@ -48,29 +46,28 @@ fn list_part<K: RecordKind + Drop>(
     total: &mut Total,
 ) -> usize {
     let mut index = Index::open(Plain::new(bytes), kind);
+    // counted, so that it ends; no index takes more scans
     for _ in 0..=MOST {
-        match index.scan(table, MOST) {
-            Ok(scanned) => match scanned.stop {
-                Stop::Spent => {}
-                _ => break,
+        let Ok(
+            Scanned {
+                stop: Stop::Spent,
+                ..
             },
-            Err(_) => break,
-        }
+        ) = index.scan(table, MOST)
+        else {
+            break;
+        };
     }
-    let held = index.rows() as usize;
-    if held <= table.len() {
-        total.add(from, &table[0..held], index.skipped());
+    if let Some(held) = table.get(..index.rows() as usize) {
+        total.add(from, held, index.skipped());
     }
     index.place() as usize
 }
 
 fn list_all<K: RecordKind + Copy + Drop>(kind: K, bytes: &[u8], table: &mut [Row]) -> Total {
-    let mut total = Total {
-        rows: 0,
-        skipped: 0,
-        sum: 0,
-    };
+    let mut total = Total::default();
     let mut from = 0usize;
+    // counted, so that it ends: an index over a table without rows reaches no further
     for _ in 0..=bytes.len() {
         if from >= bytes.len() {
             break;
@@ -87,30 +84,21 @@ fn run<K: RecordKind + Copy + Drop>(
     bytes: &[u8],
     rounds: u32,
 ) -> anyhow::Result<()> {
-    let blank = Row {
-        place: 0,
-        length: 0,
-        tag: 0,
-        source_type: 0,
-        source_id: 0,
-        time: 0,
-    };
-    let mut table = vec![in rt.alloc(); blank; MOST as usize]?;
-    let mut best = u128::MAX;
+    let mut table = vec![in rt.alloc(); Row::default(); MOST as usize]?;
+    let mut best: Option<u128> = None;
     for _ in 0..rounds {
         let start = Instant::now(rt)?;
         let total = list_all(kind, bytes, &mut table);
-        best = best.min(start.elapsed(rt)?.as_nanos());
+        let took = start.elapsed(rt)?.as_nanos();
+        best = Some(best.map_or(took, |b| b.min(took)));
+        // looked at, so that the round is not left out
         if total.rows == u64::MAX {
             break;
         }
     }
-    let total = list_all(kind, bytes, &mut table);
-    let rows = total.rows;
-    let skipped = total.skipped;
-    let sum = total.sum;
+    let Total { rows, skipped, sum } = list_all(kind, bytes, &mut table);
     println!(rt; "rows {rows} skipped {skipped} sum {sum:x}")?;
-    if rounds > 0 {
+    if let Some(best) = best {
         println!(rt; "nanoseconds {best}")?;
     }
     Ok(())

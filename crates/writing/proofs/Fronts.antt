@@ -73,9 +73,3 @@ stands_first h body rest w few =
     let apart : (body ++ n % 256 ∷ n / 256 % 256 ∷ []) ++ rest ≡ tail body n rest = append_assoc body (n % 256 ∷ n / 256 % 256 ∷ []) rest in
     let same : bytes_of (bytes_only (written h body ++ rest)) ≡ front h n ++ tail (low body) n (low rest) = low_bytes (written h body ++ rest) ∙ low_front h n ((body ++ n % 256 ∷ n / 256 % 256 ∷ []) ++ rest) ∙ ap (λ ds. front h n ++ low ds) apart ∙ ap (λ ds. front h n ++ ds) (low_tail n body rest) in
     ap tuple same ∙ stands h n (low body) (low rest) w few (length-map body (λ b. b % 256))
-
-pub front_is : (h : Header) (n : ℕ) (a b c t z : List ℕ) → a ≡ h.source_type % 256 ∷ h.source_type / 256 % 256 ∷ [] → b ≡ h.source_id % 256 ∷ h.source_id / 256 % 256 ∷ [] → c ≡ h.data_type % 256 ∷ h.data_type / 256 % 256 ∷ [] → t ≡ h.time % 256 ∷ h.time / 256 % 256 ∷ h.time / 65536 % 256 ∷ h.time / 16777216 % 256 ∷ [] → z ≡ n % 256 ∷ n / 256 % 256 ∷ [] → 0 ∷ 128 ∷ get_or a 0 0 ∷ get_or a 1 0 ∷ get_or b 0 0 ∷ get_or b 1 0 ∷ get_or c 0 0 ∷ get_or c 1 0 ∷ get_or t 0 0 ∷ get_or t 1 0 ∷ get_or t 2 0 ∷ get_or t 3 0 ∷ get_or z 0 0 ∷ get_or z 1 0 ∷ [] ≡ front h n
-front_is h n a b c t z ea eb ec et ez =
-    let third : get_or t 2 0 ≡ h.time / 256 / 256 % 256 = ap (λ xs. get_or xs 2 0) et ∙ omega arith in
-    let fourth : get_or t 3 0 ≡ h.time / 256 / 256 / 256 % 256 = ap (λ xs. get_or xs 3 0) et ∙ omega arith in
-    λ i. 0 ∷ 128 ∷ get_or (ea i) 0 0 ∷ get_or (ea i) 1 0 ∷ get_or (eb i) 0 0 ∷ get_or (eb i) 1 0 ∷ get_or (ec i) 0 0 ∷ get_or (ec i) 1 0 ∷ get_or (et i) 0 0 ∷ get_or (et i) 1 0 ∷ third i ∷ fourth i ∷ get_or (ez i) 0 0 ∷ get_or (ez i) 1 0 ∷ []

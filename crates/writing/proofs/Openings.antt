@@ -1,23 +1,12 @@
 -- Which bytes are one tuple, and what it holds.
-use Rattle.std.proofs.Common.{◌≡◌, ℕ, zero, suc, ◌+◌, ◌-◌, ◌*◌, ◌/◌, ◌%◌, ◌<◌, ◌≤◌, Bool, true, false, List, [], ◌∷◌, ◌++◌, length, get_or, take, drop, Some, None, Ok, Err, sym, refl, ap, ◌∙◌, arith}
-use Rattle.std.proofs.lemmas.List.{length-append, length-drop, length-take-le, take_at, take_rest, drop_more, drop_all, drop-drop, get_or-drop, take-append-drop}
-use Rattle.std.proofs.lemmas.Bool.{cond-true, cond-false, eq-eqb, ne_eqb}
-use Rattle.records.specs.Tuples.{pair_at, word_at, size_of, is_tuple, tuple_of}
-use Rattle.records.specs.TupleLaws.{Stood, when_stands, tuple_stands}
+use Rattle.std.proofs.Common.{◌≡◌, ℕ, zero, suc, ◌+◌, ◌-◌, ◌*◌, ◌/◌, ◌%◌, ◌<◌, ◌≤◌, List, [], ◌∷◌, ◌++◌, length, get_or, take, drop, Ok, sym, refl, ap, ◌∙◌, arith}
+use Rattle.std.proofs.lemmas.List.{length-append, length-drop, length-take-le, take_at, drop_more, drop_all, drop-drop, take-append-drop}
+use Rattle.std.proofs.lemmas.Bool.{cond-true, eq-eqb}
 use Rattle.writing.specs.declared.header.Header.{Header}
 use Rattle.writing.specs.Parts.{parts, Wide}
 use Rattle.writing.specs.Written.{front, written}
 use Rattle.writing.specs.Opened.{apart, opened}
 use Rattle.writing.proofs.Fronts.{stands}
-
-pub refuse : (bs : List ℕ) → (Stood bs → size_of bs + 16 ≡ length bs → ⊥) → Err (record {}) ≡ opened bs
-refuse bs not = go (is_tuple bs) refl
-  where
-    go : (b : Bool) → is_tuple bs ≡ b → Err (record {}) ≡ opened bs
-    go false e = sym (ap (apart bs) (cond-false (is_tuple bs) (Some (tuple_of bs)) None e))
-    go true e =
-        let s = when_stands bs e in
-        sym (ap (apart bs) (tuple_stands bs s) ∙ cond-false _ _ _ (ne_eqb _ _ (not s)))
 
 -- a tuple that was written is opened
 pub reopened : (h : Header) (body : List ℕ) → Wide h → length body < 65536 → opened (written h body) ≡ Ok (parts h body)
@@ -27,20 +16,6 @@ reopened h body w few =
     let long : n + 16 ≡ length bs = omega (arith, length-append body (n % 256 ∷ n / 256 % 256 ∷ [])) in
     let held : take (n + 16 - 16) (body ++ n % 256 ∷ n / 256 % 256 ∷ []) ≡ body = take_at body _ (n + 16 - 16) (omega arith) in
     ap (apart bs) (stands h n body [] w few refl) ∙ cond-true _ _ _ (eq-eqb _ _ long) ∙ ap (λ b. Ok (parts h b)) held
-
--- what follows the first 14 bytes
-abbrev rest : List ℕ → List ℕ
-rest bs = take (length bs - 14) (drop 14 bs)
-
-footer : (bs : List ℕ) (n f : ℕ) → f ≡ get_or (rest bs) n 0 + get_or (rest bs) (n + 1) 0 * 256 → f ≡ pair_at bs (n + 14)
-footer bs n f e =
-    let at : (i j : ℕ) → 14 + i ≡ j → get_or (rest bs) i 0 ≡ get_or bs j 0 = λ i j h. ap (λ xs. get_or xs i 0) (take_rest bs 14) ∙ get_or-drop 14 bs i 0 ∙ ap (λ k. get_or bs k 0) h in
-    omega (arith, at n (n + 14) (omega arith), at (n + 1) (n + 14 + 1) (omega arith))
-
-pub unlike : (bs : List ℕ) (n f : ℕ) → n ≡ get_or bs 12 0 + get_or bs 13 0 * 256 → f ≡ get_or (rest bs) n 0 + get_or (rest bs) (n + 1) 0 * 256 → (f ≡ n → ⊥) → Err (record {}) ≡ opened bs
-unlike bs n f size foot not =
-    let same : size_of bs ≡ n = omega arith in
-    refuse bs (λ s e. not (footer bs n f foot ∙ ap (λ k. pair_at bs (k + 14)) (sym same) ∙ s.agreed ∙ same))
 
 -- what was read of bytes that are one tuple
 pub record Read (bs : List ℕ) (h : Header) (n f : ℕ) : Type 0 where
@@ -52,32 +27,8 @@ pub record Read (bs : List ℕ) (h : Header) (n f : ℕ) : Type 0 where
   pub time : h.time ≡ get_or bs 8 0 + get_or bs 9 0 * 256 + get_or bs 10 0 * 65536 + get_or bs 11 0 * 16777216
   pub size : n ≡ get_or bs 12 0 + get_or bs 13 0 * 256
   pub long : length bs ≡ n + 16
-  pub foot : f ≡ get_or (rest bs) n 0 + get_or (rest bs) (n + 1) 0 * 256
+  pub foot : f ≡ get_or bs (length bs - 2) 0 + get_or bs (length bs - 1) 0 * 256
   pub agreed : f ≡ n
-
-body_is : (bs : List ℕ) (n k : ℕ) → n ≡ k → take (n - 0) (rest bs) ≡ take k (drop 14 bs)
-body_is bs n k e = λ i. take (sub i) (take_rest bs 14 i)
-  where
-    sub : n - 0 ≡ k
-    sub = omega arith
-
-pub accept : (bs : List ℕ) (h : Header) (n f : ℕ) → Read bs h n f → Ok (parts h (take (n - 0) (rest bs))) ≡ opened bs
-accept bs h n f r =
-    let size : size_of bs ≡ n = omega (arith, r.size) in
-    let stood : Stood bs = record {
-      first_sync = r.first_sync;
-      last_sync = r.last_sync;
-      whole = omega (arith, r.long);
-      agreed = ap (λ k. pair_at bs (k + 14)) size ∙ sym (footer bs n f r.foot) ∙ r.agreed ∙ sym size;
-    } in
-    let a : pair_at bs 2 ≡ h.source_type = omega (arith, r.type) in
-    let b : pair_at bs 4 ≡ h.source_id = omega (arith, r.id) in
-    let c : pair_at bs 6 ≡ h.data_type = omega (arith, r.data_type) in
-    let t : word_at bs 8 ≡ h.time = omega (arith, r.time) in
-    let back : n ≡ size_of bs + 16 - 16 = omega arith in
-    let body : take (size_of bs + 16 - 16) (drop 14 bs) ≡ take (n - 0) (rest bs) = sym (body_is bs n (size_of bs + 16 - 16) back) in
-    let full : size_of bs + 16 ≡ length bs = omega (arith, r.long) in
-    sym (ap (apart bs) (tuple_stands bs stood) ∙ cond-true _ _ _ (eq-eqb _ _ full) ∙ (λ i. Ok (record { header = record { source_type = a i; source_id = b i; data_type = c i; time = t i }; body = body i })))
 
 -- the k numbers from a place on
 abbrev firsts : ℕ → ℕ → List ℕ → List ℕ
@@ -94,10 +45,11 @@ split : (v low high : ℕ) → low < 256 → v ≡ low + high * 256 → (v % 256
 split v low high h e = (omega arith, omega arith)
 
 -- written again, it has its old bytes
-pub rewritten : (bs : List ℕ) (h : Header) (n f : ℕ) → ((i : ℕ) → get_or bs i 0 < 256) → Read bs h n f → written h (take (n - 0) (rest bs)) ≡ bs
+pub rewritten : (bs : List ℕ) (h : Header) (n f : ℕ) → ((i : ℕ) → get_or bs i 0 < 256) → Read bs h n f → written h (take (length bs - 2 - 14) (drop 14 bs)) ≡ bs
 rewritten bs h n f small r =
-    let body = take (n - 0) (rest bs) in
-    let is : body ≡ take n (drop 14 bs) = body_is bs n n refl in
+    let body = take (length bs - 2 - 14) (drop 14 bs) in
+    let cut : length bs - 2 - 14 ≡ n = omega (arith, r.long) in
+    let is : body ≡ take n (drop 14 bs) = ap (λ k. take k (drop 14 bs)) cut in
     let fit : n ≤ length (drop 14 bs) = omega (arith, length-drop 14 bs, r.long) in
     let long : length body ≡ n = ap length is ∙ length-take-le n (drop 14 bs) fit in
     let low : (v i j : ℕ) → v ≡ get_or bs i 0 + get_or bs j 0 * 256 → v % 256 ≡ get_or bs i 0 = λ v i j e. omega (arith, small i, small j) in
@@ -111,7 +63,9 @@ rewritten bs h n f small r =
     let (t1, q2) = split (t / 256) y (z + u * 256) (small 9) q1 in
     let (t2, q3) = split (t / 256 / 256) z u (small 10) q2 in
     let (t3, q4) = split (t / 256 / 256 / 256) u 0 (small 11) (q3 ∙ omega arith) in
-    let end : n ≡ get_or bs (14 + n) 0 + get_or bs (14 + n + 1) 0 * 256 = sym r.agreed ∙ footer bs n f r.foot ∙ turned in
+    let foot : length bs - 2 ≡ 14 + n = omega (arith, r.long) in
+    let last_foot : length bs - 1 ≡ 14 + n + 1 = omega (arith, r.long) in
+    let end : n ≡ get_or bs (14 + n) 0 + get_or bs (14 + n + 1) 0 * 256 = sym r.agreed ∙ r.foot ∙ (λ i. get_or bs (foot i) 0 + get_or bs (last_foot i) 0 * 256) in
     let z0 : n % 256 ≡ get_or bs (14 + n) 0 = low n (14 + n) (14 + n + 1) end in
     let z1 : n / 256 % 256 ≡ get_or bs (14 + n + 1) 0 = high n (14 + n) (14 + n + 1) end in
     let last : get_or bs (14 + n) 0 ∷ get_or bs (14 + n + 1) 0 ∷ [] ≡ drop n (drop 14 bs) =
@@ -120,8 +74,3 @@ rewritten bs h n f small r =
     let head : front h n ++ drop 14 bs ≡ firsts 14 0 bs ++ drop 14 bs = λ i.
     sym r.first_sync i ∷ sym r.last_sync i ∷ low _ 2 3 r.type i ∷ high _ 2 3 r.type i ∷ low _ 4 5 r.id i ∷ high _ 4 5 r.id i ∷ low _ 6 7 r.data_type i ∷ high _ 6 7 r.data_type i ∷ t0 i ∷ t1 i ∷ t2 i ∷ t3 i ∷ low n 12 13 r.size i ∷ high n 12 13 r.size i ∷ drop 14 bs in
     ap (λ k. front h k ++ (body ++ k % 256 ∷ k / 256 % 256 ∷ [])) long ∙ ap (λ xs. front h n ++ xs) after ∙ head ∙ firsts_then 14 0 bs (omega (arith, r.long))
-  where
-    turned : pair_at bs (n + 14) ≡ get_or bs (14 + n) 0 + get_or bs (14 + n + 1) 0 * 256
-    turned =
-        let e : n + 14 ≡ 14 + n = omega arith in
-        ap (λ k. pair_at bs k) e ∙ omega arith

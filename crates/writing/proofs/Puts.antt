@@ -46,6 +46,9 @@ holds ps bs f e few =
     let rows : listing (meaning tuple) (plain bs) ≡ rows_from 0 ps = sym (from_lists tuple_laws (plain bs) (lists_all (plain bs) 0 ps f same)) in
     record { fit = f; bytes = e; listed = rows; whole = ap lengths rows ∙ rows_whole 0 ps ∙ ap length (sym e) }
 
+pub holds_none : (bs : List ℕ) → bs ≡ [] → Holds [] bs
+holds_none bs e = holds [] bs tt e (omega (arith, ap length e))
+
 all_more : (ps : List Parts) (p : Parts) → AllByRecursion Fits ps → Fits p → AllByRecursion Fits (ps ++ p ∷ [])
 all_more [] p f g = (g, tt)
 all_more (q ∷ ps) p f g = (f.0, all_more ps p f.1 g)

@@ -6,6 +6,7 @@ ghost use Rattle.writing.specs.Outputs.{Holds, Adds};
 
 use crate::header::Header;
 use crate::refusal::{PutError, PutRefusal};
+use byteorder::{ByteOrder, LittleEndian};
 use std::alloc::Global;
 
 // The most bytes of a body, and of an output.
@@ -27,18 +28,18 @@ fn front_bytes(header: Header, size: u16) -> [u8; 14]
     ensures value { result ≡ front header size }
     ensures wide { Wide header }
 {
-    let kind = header.source_type.to_le_bytes();
-    let id = header.source_id.to_le_bytes();
-    let data = header.data_type.to_le_bytes();
-    let time = header.time.to_le_bytes();
-    let size = size.to_le_bytes();
-    [
-        0, 0x80, kind[0], kind[1], id[0], id[1], data[0], data[1], time[0], time[1], time[2],
-        time[3], size[0], size[1],
-    ]
+    let mut front = [0; 14];
+    front[1] = 0x80;
+    LittleEndian::write_u16(&mut front[2..], header.source_type);
+    LittleEndian::write_u16(&mut front[4..], header.source_id);
+    LittleEndian::write_u16(&mut front[6..], header.data_type);
+    LittleEndian::write_u32(&mut front[8..], header.time);
+    LittleEndian::write_u16(&mut front[12..], size);
+    front
 }
 
 impl Output {
+    #[tactic(auto, using(crate::proofs::Puts::holds_none))]
     pub fn new(heap: Global) -> Output
         ensures value { result.bytes.items ≡ [] }
         ensures law { Holds [] result.bytes.items }
@@ -61,10 +62,10 @@ impl Output {
         ensures law { OnOk result (Adds header body.now self.old.bytes.items self.new.bytes.items) }
     {
         if body.len() > LONGEST {
-            return Err(PutError::Refused(PutRefusal::LongBody));
+            return Err(PutRefusal::LongBody.into());
         }
         if self.bytes.len() + (body.len() + FRAME) > LIMIT {
-            return Err(PutError::Refused(PutRefusal::Full));
+            return Err(PutRefusal::Full.into());
         }
         let size = body.len() as u16;
         self.bytes.reserve(body.len() + FRAME)?;

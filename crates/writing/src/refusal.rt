@@ -1,9 +1,9 @@
 // Why a tuple is not written, or not taken apart.
 ghost use Rattle.std.specs.Prelude.{◌≡◌};
-ghost use Rattle.writing.specs.declared.refusal.PutError.TheVariants.{Memory};
+ghost use Rattle.writing.specs.declared.refusal.PutError.TheVariants.{Refused, Memory};
 ghost use Rattle.writing.specs.Refusals.{put_refusal, not_one_tuple};
 
-use refusals::Refusal;
+use refusals::{Notice, Refusal};
 use std::alloc::AllocError;
 
 #[derive(Clone, Copy, Debug, PartialEq, Eq)]
@@ -16,6 +16,7 @@ pub enum PutRefusal {
 
 // A put that is refused, or that finds no memory: the second has no number.
 #[derive(Clone, Copy, Debug, PartialEq, Eq)]
+// No Option: both cases are errors.
 pub enum PutError {
     Refused(PutRefusal),
     Memory,
@@ -25,6 +26,7 @@ pub enum PutError {
 #[derive(Clone, Copy, Debug, PartialEq, Eq)]
 pub struct NotOneTuple;
 
+// A rule of the project keeps these by hand: contracts speak of the error that `?` makes.
 impl From<AllocError> for PutError {
     ghost from_gives = { λ _ y. y ≡ Memory };
 
@@ -33,29 +35,29 @@ impl From<AllocError> for PutError {
     }
 }
 
+impl From<PutRefusal> for PutError {
+    ghost from_gives = { λ e y. y ≡ Refused e };
+
+    fn from(e: PutRefusal) -> PutError {
+        PutError::Refused(e)
+    }
+}
+
 impl Refusal for PutRefusal {
     ghost told = { put_refusal };
 
-    fn number(&self) -> u8 {
+    fn notice(&self) -> Notice {
         match self {
-            PutRefusal::LongBody => 3,
-            PutRefusal::Full => 24,
+            PutRefusal::LongBody => Notice::nowhere(3),
+            PutRefusal::Full => Notice::nowhere(24),
         }
-    }
-
-    fn place(&self) -> usize {
-        0
     }
 }
 
 impl Refusal for NotOneTuple {
     ghost told = { not_one_tuple };
 
-    fn number(&self) -> u8 {
-        15
-    }
-
-    fn place(&self) -> usize {
-        0
+    fn notice(&self) -> Notice {
+        Notice::nowhere(15)
     }
 }

@@ -1,4 +1,4 @@
-use Rattle.std.proofs.Common.{◌+◌, ◌*◌, Some, sym, ◌∙◌, arith}
+use Rattle.std.proofs.Common.{◌≡◌, ◌+◌, ◌*◌, Some, sym, ap, ◌∙◌, arith}
 use Rattle.records.proofs.Reading.{within, no_pair, the_pair}
 use Rattle.records.proofs.bytes.pair.Goals as goal
 
@@ -10,5 +10,5 @@ returns-in_err-high g c = c.from_residual-in_err-high.ensures ∙ sym (no_pair (
 
 pub returns : goal.returns
 returns g c =
-    (λ j. Some (c.from.ensures j + 256 * c.from-2.ensures j))
-    ∙ sym (the_pair (g.S.Store.cells c.args.store.now) c.args.at _ (sym c.in_ok-low.ensures) _ (sym c.in_ok-high.ensures))
+    let number : c.from_le_bytes.result ≡ c.in_ok-low.low + 256 * c.in_ok-high.high = omega arith in
+    ap Some number ∙ sym (the_pair (g.S.Store.cells c.args.store.now) c.args.at _ (sym c.in_ok-low.ensures) _ (sym c.in_ok-high.ensures))

@@ -1,4 +1,5 @@
-use Rattle.std.proofs.Common.{sym, ◌∙◌, arith}
+use Rattle.std.proofs.Common.{◌≡◌, ◌+◌, ◌*◌, Some, refl, sym, ◌∙◌, arith}
+use Rattle.std.proofs.lemmas.Grind.{or_after_shift}
 use Rattle.records.proofs.TupleTests.{unread, read}
 use Rattle.records.proofs.tuples.tuple_at.Goals as goal
 
@@ -19,5 +20,9 @@ returns-in_err-high_time g c = c.from_residual-in_err-high_time.ensures ∙ unre
 
 pub returns : goal.returns
 returns g c =
-    read (g.S.Store.cells c.args.store.now) c.args.at _ c.in_ok-length.ensures.is _ _ _ _ _ (sym c.in_ok-source_type.ensures) (sym c.in_ok-source_id.ensures)
+    let tag : c.from.result ≡ c.in_ok-data_type.data_type = omega arith in
+    let joined = or_after_shift c.from-2.result 65536 4294967296 c.from-3.result refl (omega arith) (omega arith) in
+    let swapped : c.from-2.result * 65536 + c.from-3.result ≡ c.in_ok-low_time.low_time + 65536 * c.in_ok-high_time.high_time = omega arith in
+    (λ i. Some (record { length = c.in_ok-length.length; tag = tag i; source_type = c.in_ok-source_type.source_type; source_id = c.in_ok-source_id.source_id; time = (joined ∙ swapped) i }))
+    ∙ read (g.S.Store.cells c.args.store.now) c.args.at _ c.in_ok-length.ensures.is _ _ _ _ _ (sym c.in_ok-source_type.ensures) (sym c.in_ok-source_id.ensures)
     (sym c.in_ok-data_type.ensures) (sym c.in_ok-low_time.ensures) (sym c.in_ok-high_time.ensures)

@@ -1,29 +1,22 @@
-use Rattle.std.proofs.Common.{◌≡◌, ◌+◌, length, rules}
-use Rattle.writing.proofs.Openings.{unlike, Read, accept, rewritten}
+use Rattle.std.proofs.Common.{rules}
+use Rattle.writing.proofs.Openings.{Read, rewritten}
 use Rattle.writing.proofs.tuple.open.Goals as goal
 
-pub returns-then-from_le_bytes-size : goal.returns-then-from_le_bytes-size
-returns-then-from_le_bytes-size c = record {
-  value = unlike c.args.bytes.now c.from_le_bytes-size.result c.from_le_bytes.result c.from_le_bytes-size.ensures c.from_le_bytes.ensures c.if-from_le_bytes-size.true;
-  law = tt;
-}
-
-pub returns : goal.returns
-returns c =
+pub returns-clause-law : goal.returns-clause-law
+returns-clause-law c =
     let bs = c.args.bytes.now in
     let n = c.from_le_bytes-size.result in
     let f = c.from_le_bytes.result in
-    let long : length bs ≡ n + 16 = search rules in
-    let read : Read bs c.header_of-header.result n f = record {
-      first_sync = c.if-s0-ne0.false;
-      last_sync = c.if-s1.false;
-      type = c.header_of-header.ensures.kind;
-      id = c.header_of-header.ensures.id;
-      data_type = c.header_of-header.ensures.tag;
-      time = c.header_of-header.ensures.time;
+    let read : Read bs (record { source_type = c.from_le_bytes-2.result; source_id = c.from_le_bytes-3.result; data_type = c.from_le_bytes-4.result; time = c.from_le_bytes-5.result }) n f = record {
+      first_sync = search rules;
+      last_sync = search rules;
+      type = search rules;
+      id = search rules;
+      data_type = search rules;
+      time = search rules;
       size = c.from_le_bytes-size.ensures;
-      long = long;
+      long = search rules;
       foot = c.from_le_bytes.ensures;
       agreed = c.if-from_le_bytes-size.false;
     } in
-    record { value = accept bs _ n f read; law = rewritten bs _ n f (λ i. (c.type_inv.bytes i).fits) read }
+    rewritten bs _ n f (λ i. (c.type_inv.bytes i).fits) read

@@ -1,8 +1,8 @@
-use Rattle.records.proofs.Searches.{unlike_within, no_sentence}
+use Rattle.records.proofs.Searches.{no_sentence, first_dollar}
 use Rattle.records.proofs.sentences.SentencesRecordKind.vacant.Goals as goal
 
 pub returns : goal.returns
-returns c = record {
-  within = unlike_within _ c.args.run.now c.missing.result c.missing.ensures;
-  none = no_sentence c.args.run.now c.missing.result (λ k. (c.type_inv.run k).fits) c.missing.ensures;
-}
+returns c =
+    let run = c.args.run.now in
+    let far = first_dollar run c.memchr.result c.unwrap_or.result c.memchr.ensures c.unwrap_or.ensures in
+    record { within = far.0; none = no_sentence run c.unwrap_or.result (λ k. (c.type_inv.run k).fits) far.0 far.1 }
