@@ -86,51 +86,110 @@ fn before_sync(bytes: &[u8]) -> usize {
     bytes.len()
 }
 
-// What a byte may be in a sentence: bit 0 for the five characters, bit 1 for the text.
-const CLASS: [u8; 256] = {
-    let mut class = [0; 256];
-    let mut b = 0x20;
-    while b <= 0x7e {
-        let name = b >= b'A' as usize && b <= b'Z' as usize || b >= b'0' as usize && b <= b'9' as usize;
-        let text = b != b'$' as usize && b != b'!' as usize && b != b'*' as usize;
-        class[b] = name as u8 | (text as u8) << 1;
+// Which bytes may be one of the five characters.
+static NAME: [bool; 256] = {
+    let mut name = [false; 256];
+    let mut b = 0;
+    while b < 256 {
+        name[b] = (b as u8).is_ascii_uppercase() || (b as u8).is_ascii_digit();
         b += 1;
     }
-    class
+    name
 };
+
+fn is_text(b: u8) -> bool {
+    matches!(b, 0x20..=0x7e) && b != b'$' && b != b'!' && b != b'*'
+}
+
+// How many bytes at the front may stand in a text, and the exclusive-or of a number and them, one by one.
+fn text_slowly(bytes: &[u8], mut sum: u8) -> (usize, u8) {
+    let mut k = 0;
+    while k < bytes.len() && is_text(bytes[k]) {
+        sum ^= bytes[k];
+        k += 1;
+    }
+    (k, sum)
+}
+
+// The 16 bytes from 16 - n on keep the first n of 16 bytes.
+static KEPT: [u8; 32] = {
+    let mut kept = [0; 32];
+    let mut k = 0;
+    while k < 16 {
+        kept[k] = 0xff;
+        k += 1;
+    }
+    kept
+};
+
+// The same of 80 bytes, 16 at once. All 80 are a text: then the sum is no matter, since no sentence has so many.
+#[inline(always)]
+fn text(bytes: &[u8; 80], sum: u8) -> (usize, u8) {
+    // SAFETY: `k` is at most 64 and `n` at most 15 where 16 bytes are loaded; x86-64 has these instructions.
+    unsafe {
+        let splat = |b: u8| _mm_set1_epi8(b as i8);
+        let mut all = _mm_setzero_si128();
+        let mut k = 0;
+        while k < 80 {
+            let here = _mm_loadu_si128(bytes.as_ptr().add(k).cast());
+            // As signed numbers, bytes past 0x7f are below 0x20 too.
+            let low = _mm_or_si128(_mm_cmplt_epi8(here, splat(0x20)), _mm_cmpeq_epi8(here, splat(0x7f)));
+            let marks = _mm_or_si128(_mm_cmpeq_epi8(here, splat(b'$')), _mm_cmpeq_epi8(here, splat(b'!')));
+            let strange = _mm_or_si128(_mm_or_si128(low, marks), _mm_cmpeq_epi8(here, splat(b'*')));
+            let found = _mm_movemask_epi8(strange) as u32;
+            if found != 0 {
+                let n = found.trailing_zeros() as usize;
+                let kept = _mm_loadu_si128(KEPT.as_ptr().add(16 - n).cast());
+                all = _mm_xor_si128(all, _mm_and_si128(here, kept));
+                all = _mm_xor_si128(all, _mm_srli_si128(all, 8));
+                let mut word = _mm_cvtsi128_si64(all) as u64;
+                word ^= word >> 32;
+                word ^= word >> 16;
+                word ^= word >> 8;
+                return (k + n, sum ^ word as u8);
+            }
+            all = _mm_xor_si128(all, here);
+            k += 16;
+        }
+        (k, sum)
+    }
+}
+
+// The length of a sentence by what follows its five characters, and by its text's length and sum.
+#[inline(always)]
+fn closed(rest: &[u8], (n, sum): (usize, u8)) -> Option<u32> {
+    const DIGITS: &[u8; 16] = b"0123456789ABCDEF";
+    if n > 71 || n + 5 > rest.len() || n > 0 && rest[0] != b',' {
+        return None;
+    }
+    let digits = [DIGITS[(sum >> 4) as usize], DIGITS[(sum & 15) as usize]];
+    let closing = [b'*', digits[0], digits[1], b'\r', b'\n'];
+    (rest[n..n + 5] == closing).then_some(n as u32 + 11)
+}
+
+#[cold]
+fn closed_slowly(rest: &[u8], sum: u8) -> Option<u32> {
+    closed(rest, text_slowly(rest, sum))
+}
 
 // The sentence at the front of the bytes.
 #[inline(always)]
 fn sentence(bytes: &[u8]) -> Found {
-    const DIGITS: &[u8; 16] = b"0123456789ABCDEF";
     if bytes.len() < 11 || bytes[0] != b'$' {
         return None;
     }
     let name: &[u8; 5] = bytes[1..6].try_into().unwrap();
-    if name.iter().fold(1, |all, b| all & CLASS[*b as usize]) == 0 {
+    if !name.iter().fold(true, |all, b| all & NAME[*b as usize]) {
         return None;
     }
-    let mut sum = name.iter().fold(0, |sum, b| sum ^ b);
-    // A text that begins here must leave room for the star, two digits, CR and LF in 82 bytes.
-    let rest = &bytes[6..bytes.len().min(82)];
-    let mut k = 0;
-    if rest[0] == b',' {
-        sum ^= b',';
-        k = 1;
-        while k < rest.len() && CLASS[rest[k] as usize] & 2 != 0 {
-            sum ^= rest[k];
-            k += 1;
-        }
-    }
-    let Some(closing) = rest.get(k..k + 5) else {
-        return None;
-    };
-    let digits = [DIGITS[(sum >> 4) as usize], DIGITS[(sum & 15) as usize]];
-    if closing != [b'*', digits[0], digits[1], b'\r', b'\n'] {
-        return None;
-    }
+    let sum = name.iter().fold(0, |sum, b| sum ^ b);
+    let rest = &bytes[6..];
+    let length = match rest.first_chunk::<80>() {
+        Some(near) => closed(near, text(near, sum)),
+        None => closed_slowly(rest, sum),
+    }?;
     Some(Row {
-        length: k as u32 + 11,
+        length,
         tag: (name[2] as u32) << 16 | (name[3] as u32) << 8 | name[4] as u32,
         ..Row::default()
     })

@@ -3,3 +3,4 @@ pub mod TupleTests
 pub mod SentenceTests
 pub mod Searches
 pub mod Runs
+pub mod Texts

@@ -1,24 +1,13 @@
 -- Where a sentence stands, told by what was read.
-use Rattle.std.proofs.Common.{◌≡◌, ℕ, zero, suc, ◌+◌, ◌<◌, ◌≤◌, Bool, true, false, cond, ◌&&◌, eqb, leb, List, [], ◌∷◌, length, get_or, take, drop, min, Some, None, Option, sym, refl, ap, ◌∙◌, ⊎_elim, add-one, suc-le-suc, le_of_suc-le-suc, not-suc-le-zero, zero-le, arith, drop-cons, length-take, get_or-take}
+use Rattle.std.proofs.Common.{◌≡◌, ℕ, zero, suc, ◌+◌, ◌<◌, ◌≤◌, Bool, true, false, cond, ◌&&◌, eqb, leb, List, [], ◌∷◌, length, get_or, take, drop, min, Some, None, sym, refl, ap, ◌∙◌, ⊎_elim, add-one, suc-le-suc, le_of_suc-le-suc, not-suc-le-zero, zero-le, arith, length-take, get_or-take, take-take}
 use lib.Bits.{bit_xor}
 use Rattle.std.proofs.lemmas.List.{drop_all}
-use Rattle.std.proofs.lemmas.Bool.{cases_Bool, cases_lt, cond-false, cond-true, eqb-true, eq-eqb, ne_eqb, and_left, and_right, and_from, and_parts, le-leb, lt-leb, false≢true}
-use Rattle.memchr.specs.Find.{IsFirstByte, is_byte}
+use Rattle.std.proofs.lemmas.List.Sums.{prefix_len-le-length, prefix_len_passes, prefix_len_stops}
+use Rattle.std.specs.List.{prefix_len}
+use Rattle.std.proofs.lemmas.Bool.{cases_Bool, cond-false, cond-true, eqb-true, eq-eqb, ne_eqb, and_left, and_right, and_from, and_parts, le-leb, lt-leb, false≢true}
 use Rattle.records.specs.Sentences.{name_char, text_char, all_text, is_text, before_star, xored, closing, begins, dollar, is_head, name_sum, tag_of, is_tail, tail_of, sentence_of, sentence}
 use Rattle.records.specs.GrammarLaws.{some_cond}
 use Rattle.records.proofs.TupleTests.{read_in}
-
--- a turn of the code that reads a text
-module _ (text : List ℕ) (i : ℕ) (more : i < length text) where
-  on : drop i text ≡ get_or text i 0 ∷ drop (i + 1) text
-  on = drop-cons text i 0 more ∙ ap (λ k. get_or text i 0 ∷ drop k text) (sym (add-one i))
-
-  pub sum_next : (sum : ℕ) → xored sum (drop i text) ≡ xored (bit_xor sum (get_or text i 0)) (drop (i + 1) text)
-  sum_next sum = ap (xored sum) on
-
-  pub good_next : (good : Bool) → (good && all_text (drop i text)) ≡ ((good && text_char (get_or text i 0)) && all_text (drop (i + 1) text))
-  good_next false = refl
-  good_next true = ap all_text on
 
 and_true : (t : Bool) → (t && true) ≡ t
 and_true true = refl
@@ -55,40 +44,72 @@ none_cond : {A : Type 0} (t : Bool) (x : A) → cond t (Some x) None ≡ None �
 none_cond false x e = refl
 none_cond true x e = let z : ◌≡◌ {A = ℕ} 0 1 = cc in absurd (omega arith)
 
--- the first star was looked for among the first m bytes, 72 or all
-module _ (sum m : ℕ) (rest : List ℕ) (is : m ≡ min (length rest) 72) where
-  pub starless : IsFirstByte (is_byte 42) (take m rest) None → None ≡ tail_of sum rest
-  starless none =
+-- a byte that stands in no text, ahead of the first star
+strays : (k : ℕ) (bs : List ℕ) → k < length bs → ((j : ℕ) → j < k → get_or bs j 0 ≡ 42 → ⊥) → (get_or bs k 0 ≡ 42 → ⊥) → text_char (get_or bs k 0) ≡ false → all_text (before_star bs) ≡ false
+strays k [] h none ne e = absurd (not-suc-le-zero h)
+strays zero (b ∷ bs) h none ne e = ap all_text (cond-false (eqb b 42) _ _ (ne_eqb b 42 ne)) ∙ and_left (text_char b) _ e
+strays (suc k) (b ∷ bs) h none ne e =
+    ap all_text (cond-false (eqb b 42) _ _ (ne_eqb b 42 (none 0 (omega arith))))
+    ∙ and_right (text_char b) _ (strays k bs (le_of_suc-le-suc h) (λ j l. none (suc j) (suc-le-suc l)) ne e)
+
+all_good : (n : ℕ) (bs : List ℕ) → n ≤ length bs → ((k : ℕ) → k < n → text_char (get_or bs k 0) ≡ true) → all_text (take n bs) ≡ true
+all_good zero bs h good = refl
+all_good (suc n) [] h good = refl
+all_good (suc n) (b ∷ bs) h good = and_from _ _ (good 0 (omega arith)) (all_good n bs (le_of_suc-le-suc h) (λ k l. good (suc k) (suc-le-suc l)))
+
+-- of the first m bytes, 80 or all, n at the front may stand in a text
+module _ (sum m n : ℕ) (rest : List ℕ) (is : m ≡ min (length rest) 80) (len : n ≡ prefix_len text_char (take m rest)) where
+  inside : n ≤ m
+  inside = omega (arith, prefix_len-le-length text_char (take m rest), length-take m rest)
+
+  good : (k : ℕ) → k < n → text_char (get_or rest k 0) ≡ true
+  good k h = sym (ap text_char (get_or-take m rest k 0 (omega (arith, inside)))) ∙ prefix_len_passes text_char (take m rest) k 0 (omega arith)
+
+  none : (k : ℕ) → k < n → get_or rest k 0 ≡ 42 → ⊥
+  none k h e = false≢true (sym (ap text_char e) ∙ good k h)
+
+  far : n ≤ length (before_star rest)
+  far = unstarred n rest (omega (arith, inside)) none
+
+  pub too_long : 71 < n → None ≡ tail_of sum rest
+  too_long h = sym (cond-false _ _ _ (and_right (is_text (before_star rest)) _ (and_left _ _ (lt-leb (length (before_star rest) + 11) 82 (omega (arith, far))))))
+
+  pub endless : length rest ≤ n → None ≡ tail_of sum rest
+  endless h =
       let text = before_star rest in
-      let far = unstarred m rest (omega arith) (λ k l e. none k zero-le (omega (arith, length-take m rest)) (eq-eqb _ 42 (get_or-take m rest k 0 l ∙ e))) in
-      ⊎_elim
-      (λ lt.
       let past : begins (closing (xored sum text)) (drop (suc (length text)) rest) ≡ false = ap (begins (closing (xored sum text))) (drop_all (suc (length text)) rest (omega (arith, far))) in
-      sym (cond-false _ _ _ (and_right (is_text text) _ (and_right (leb (length text + 11) 82) _ past))))
-      (λ ge. sym (cond-false _ _ _ (and_right (is_text text) _ (and_left _ _ (lt-leb (length text + 11) 82 (omega (arith, far)))))))
-      (cases_lt (length rest) 72)
+      sym (cond-false _ _ _ (and_right (is_text text) _ (and_right (leb (length text + 11) 82) _ past)))
 
-  module _ (k : ℕ) (found : IsFirstByte (is_byte 42) (take m rest) (Some k)) where
-    before : k < m
-    before = omega (arith, found.0.high, length-take m rest)
+  module _ (near : n ≤ 71) (room : n < length rest) where
+    pub starless : (get_or rest n 0 ≡ 42 → ⊥) → None ≡ tail_of sum rest
+    starless ne =
+        let bad : text_char (get_or rest n 0) ≡ false =
+        sym (ap text_char (get_or-take m rest n 0 (omega arith))) ∙ ap (λ k. text_char (get_or (take m rest) k 0)) len ∙ prefix_len_stops text_char (take m rest) 0 (omega (arith, length-take m rest)) in
+        let text = before_star rest in
+        let no : is_text text ≡ false = sym (text_parts text) ∙ and_left (all_text text) _ (strays n rest room none ne bad) in
+        sym (cond-false _ _ _ (and_left _ _ no))
 
-    by_text : cond (is_text (take k rest)) (cond (begins (closing (xored sum (take k rest))) (drop (k + 1) rest)) (Some (k + 11)) None) None ≡ tail_of sum rest
-    by_text =
-        let same = starred k rest (omega (arith, before)) (λ j l e. found.0.before j zero-le l (eq-eqb _ 42 (get_or-take m rest j 0 (omega (arith, before)) ∙ e))) (sym (get_or-take m rest k 0 before) ∙ eqb-true _ 42 found.1) in
-        let n : length (before_star rest) ≡ k = omega (arith, ap length same, length-take k rest, before) in
-        let short : leb (k + 11) 82 ≡ true = le-leb _ _ (omega (arith, before)) in
-        let next : k + 1 ≡ suc k = add-one k in
-        both (is_text (take k rest)) (begins (closing (xored sum (take k rest))) (drop (k + 1) rest)) (k + 11)
-        ∙ (λ j. cond (is_text (take k rest) && (sym short j && begins (closing (xored sum (take k rest))) (drop (next j) rest))) (Some (k + 11)) None)
-        ∙ sym (λ j. cond (is_text (same j) && (leb (n j + 11) 82 && begins (closing (xored sum (same j))) (drop (suc (n j)) rest))) (Some (n j + 11)) None)
+    module _ (star : get_or rest n 0 ≡ 42) where
+      by_comma : is_text (take n rest) ≡ is_text (take 1 (take n rest))
+      by_comma = sym (text_parts (take n rest)) ∙ ap (λ t. t && is_text (take 1 (take n rest))) (all_good n rest (omega arith) good)
 
-    pub textless : None ≡ cond (is_text (take k rest)) (Some (xored sum (take k rest))) None → None ≡ tail_of sum rest
-    textless e = sym (cond-false _ _ _ (none_cond (is_text (take k rest)) _ (sym e))) ∙ by_text
+      by_text : cond (is_text (take n rest)) (cond (begins (closing (xored sum (take n rest))) (drop (n + 1) rest)) (Some (n + 11)) None) None ≡ tail_of sum rest
+      by_text =
+          let same = starred n rest room none star in
+          let l : length (before_star rest) ≡ n = omega (arith, ap length same, length-take n rest) in
+          let short : leb (n + 11) 82 ≡ true = le-leb _ _ (omega arith) in
+          let next : n + 1 ≡ suc n = add-one n in
+          both (is_text (take n rest)) (begins (closing (xored sum (take n rest))) (drop (n + 1) rest)) (n + 11)
+          ∙ (λ j. cond (is_text (take n rest) && (sym short j && begins (closing (xored sum (take n rest))) (drop (next j) rest))) (Some (n + 11)) None)
+          ∙ sym (λ j. cond (is_text (same j) && (leb (l j + 11) 82 && begins (closing (xored sum (same j))) (drop (suc (l j)) rest))) (Some (l j + 11)) None)
 
-    pub closed : (x : ℕ) → Some x ≡ cond (is_text (take k rest)) (Some (xored sum (take k rest))) None → cond (begins (closing x) (drop (k + 1) rest)) (Some (k + 11)) None ≡ tail_of sum rest
-    closed x e =
-        let f = some_cond (is_text (take k rest)) _ x (sym e) in
-        sym (cond-true _ _ _ f.0 ∙ ap (λ s. cond (begins (closing s) (drop (k + 1) rest)) (Some (k + 11)) None) f.1) ∙ by_text
+      pub commaless : is_text (take 1 (take n rest)) ≡ false → None ≡ tail_of sum rest
+      commaless e = sym (cond-false _ _ _ (by_comma ∙ e)) ∙ by_text
+
+      pub closed : is_text (take 1 (take n rest)) ≡ true → cond (begins (closing (xored sum (take n (take m rest)))) (drop (n + 1) rest)) (Some (n + 11)) None ≡ tail_of sum rest
+      closed e =
+          ap (λ t. cond (begins (closing (xored sum t)) (drop (n + 1) rest)) (Some (n + 11)) None) (take-take n m rest inside)
+          ∙ sym (cond-true _ _ _ (by_comma ∙ e)) ∙ by_text
 
 name_some : (b : ℕ) → name_char b ≡ true → 0 < b
 name_some zero e = absurd (false≢true e)

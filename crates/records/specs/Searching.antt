@@ -1,5 +1,6 @@
--- A search for two bytes that stand side by side.
-use Rattle.std.specs.Prelude.{ℕ, ◌+◌, ◌<◌, List, length, replicate, ◌≢◌, bit_or, bit_xor, slice_index}
+-- A search for two bytes that stand side by side, and one for the end of a text.
+use Rattle.std.specs.Prelude.{ℕ, ◌+◌, ◌<◌, Bool, not, List, length, replicate, ◌≢◌, bit_or, bit_xor, slice_index}
+use Rattle.records.specs.Sentences.{text_char}
 use Rattle.std.specs.Simd.Lanes.{zip2}
 use Rattle.records.specs.declared.search.Pair.{Pair}
 
@@ -14,3 +15,7 @@ lanes pair heres nexts = zip2 bit_or (zip2 bit_xor heres (replicate 32 pair.firs
 -- at none of the first n places the pair stands, and a byte follows each
 abbrev pub Unlike : Pair → List ℕ → ℕ → Type 0
 Unlike pair bs n = (k : ℕ) → k < n → (k + 1 < length bs) × (differs pair (slice_index bs k) (slice_index bs (k + 1)) ≢ 0)
+
+-- a byte that stands in no text
+abbrev pub strange : ℕ → Bool
+strange b = not (text_char b)

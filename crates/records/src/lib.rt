@@ -5,4 +5,5 @@ pub mod bytes;
 pub mod kind;
 mod search;
 pub mod sentences;
+mod text;
 pub mod tuples;

@@ -1,17 +1,21 @@
 // Sentences of NMEA 0183: `$`, five characters, nothing or a comma and a text, `*`, two digits, CR, LF.
-ghost use Rattle.std.specs.Prelude.{◌≡◌, ℕ, ◌<◌, ◌≤◌, cond, ◌&&◌, Some, None, take};
+ghost use Rattle.std.specs.Prelude.{◌≡◌, ℕ, ◌<◌, ◌≤◌, ◌&&◌, take};
 ghost use Rattle.records.specs.Grammars.{bytes_from, meaning};
-ghost use Rattle.records.specs.Sentences.{name_char, text_char, is_text, xored, hex_digit, closing, begins};
+ghost use Rattle.records.specs.Sentences.{name_char, text_char, is_text, hex_digit, closing, begins};
 ghost use Rattle.records.specs.Sentences.{tail_of, sentence};
 ghost use Rattle.records.specs.SentenceLaws.{sentence_laws};
 
 use crate::bytes::byte;
 use crate::kind::{Record, RecordKind};
+use crate::text::text_at_front;
 use memchr::memchr;
 use recording::Store;
 
 // The most bytes of a sentence.
 const LONGEST: usize = 82;
+
+// How many bytes are searched for the end of a text: some vectors of bytes, and no fewer than a text can have.
+const NEAR: usize = 80;
 
 // The record kind of NMEA 0183 logs.
 #[derive(Clone, Copy, Debug)]
@@ -23,7 +27,7 @@ fn is_name(b: u8) -> bool
     matches!(b, b'A'..=b'Z' | b'0'..=b'9')
 }
 
-fn is_text_char(b: u8) -> bool
+pub(crate) fn is_text_char(b: u8) -> bool
     ensures { result ≡ text_char b }
 {
     matches!(b, 0x20..=0x7e) && b != b'$' && b != b'!' && b != b'*'
@@ -54,28 +58,16 @@ fn comma_first(text: &[u8]) -> bool
     text.first().is_none_or(|b| *b == b',')
 }
 
-// The exclusive-or of a number and a text, if the bytes are one. Every byte is judged, whatever was found before it:
-// so many are judged at once.
-fn text_sum(text: &[u8], name_sum: u8) -> Option<u8>
-    ensures { result ≡ cond (is_text text.now) (Some (xored name_sum text.now)) None }
-{
-    let mut sum = name_sum;
-    let mut good = true;
-    for b in text {
-        sum ^= *b;
-        good &= is_text_char(*b);
-    }
-    (good && comma_first(text)).then_some(sum)
-}
-
 // What stands after a sentence's five characters, whose sum is given: the length of the whole sentence.
 #[inline(never)]
 fn tail_length(rest: &[u8], name_sum: u8) -> Option<u32>
     ensures { result ≡ tail_of name_sum rest.now }
 {
-    let star = memchr(b'*', &rest[..rest.len().min(72)])?;
-    let sum = text_sum(&rest[..star], name_sum)?;
-    closes(&rest[star + 1..], sum).then_some(star as u32 + 11)
+    let (n, sum) = text_at_front(&rest[..rest.len().min(NEAR)], name_sum);
+    if n > 71 || n >= rest.len() || rest[n] != b'*' || !comma_first(&rest[..n]) {
+        return None;
+    }
+    closes(&rest[n + 1..], sum).then_some(n as u32 + 11)
 }
 
 // Whether all five may stand in an address.
