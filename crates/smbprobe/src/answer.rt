@@ -8,11 +8,11 @@ use std::alloc::{AllocError, Global};
 use std::fmt;
 
 // The text of what was answered, or the line of the refusal.
-pub fn told<T: Drop, R: Refusal + Drop, F: FnOnce(Global, T) -> Result<String, AllocError> + Drop>(
-    heap: Global,
-    answer: Result<T, R>,
-    text: F,
-) -> Result<String, AllocError>
+pub(crate) fn told<
+    T: Drop,
+    R: Refusal + Drop,
+    F: FnOnce(Global, T) -> Result<String, AllocError> + Drop,
+>(heap: Global, answer: Result<T, R>, text: F) -> Result<String, AllocError>
     requires { F.IsAlwaysCallable text }
 {
     match answer {
