@@ -44,6 +44,7 @@ pub(crate) fn text_at_front(bytes: &[u8], name_sum: u8) -> (usize, u8)
 {
     let mut sum = name_sum;
     let mut i = 0;
+    // Counted, since where the loops stop is the answer, and the second goes on from the first: chunks would be no plainer.
     while bytes.len() - i >= LANES {
         let v = u8x16::from_slice(&bytes[i..]);
         let found = strange(v);
