@@ -22,6 +22,7 @@ fn read_on<S: Store + Drop, K: RecordKind + Drop>(
     cells: u32,
 ) -> anyhow::Result<()> {
     let mut told = 0u32;
+    // counted, since no loop of this project may run forever
     for _ in 0..=cells {
         match index.scan(table, MOST) {
             Ok(

@@ -48,6 +48,7 @@ fn clear_before<S: Store + Drop, K: RecordKind + Drop>(
     place: u32,
 ) -> u32 {
     let mut boundary = place;
+    // counted, since no loop of this project may run forever
     for _ in 0..=place {
         let Ok(Some(crossing)) = index.clear(table, boundary) else {
             break;

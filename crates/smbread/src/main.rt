@@ -24,6 +24,7 @@ fn main(rt: HostRuntime) -> anyhow::Result<()> {
         skipped,
     } = file.counts();
     println!(rt; "rows {rows} place {place} skipped {skipped}")?;
+    // by number, as a file hands out its rows: no plainer otherwise
     for n in 0..rows {
         if let Ok(row) = file.row(n) {
             println!(rt; "{row}")?;
