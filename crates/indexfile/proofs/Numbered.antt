@@ -10,6 +10,14 @@ use Rattle.indexfile.specs.Reading.{reached_row}
 use Rattle.indexfile.specs.Numbers.{little, number}
 use Rattle.indexfile.specs.Files.{row_of, row_in, rows_of, rows_in, sound_rows, shaped, sound_file}
 
+length-rows-of : (m : ℕ) (bs : List ℕ) → length (rows_of m bs) ≡ m
+length-rows-of zero bs = refl
+length-rows-of (suc m) bs = ap suc (length-rows-of m (drop 20 bs))
+
+-- a file has as many rows as it counts
+pub counted : (bs : List ℕ) → length (rows_in bs) ≡ number bs 0 4
+counted bs = length-rows-of (number bs 0 4) (drop 16 bs)
+
 at_rows : (m n : ℕ) (bs : List ℕ) (d : Row) → n < m → get_or (rows_of m bs) n d ≡ row_of (drop (20 * n) bs)
 at_rows zero n bs d h = absurd (omega arith)
 at_rows (suc m) zero bs d h = refl

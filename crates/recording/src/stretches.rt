@@ -81,6 +81,9 @@ fn unmarked(rows: &[Stretch], at: u32, count: usize) -> usize
     let mut free = count;
     for row in rows {
         free = row.before(at, free);
+        if free == 0 {
+            return 0;
+        }
     }
     free
 }
@@ -146,11 +149,10 @@ impl<S: Store> Store for Stretches<S> {
     }
 
     fn cell(&self, at: u32) -> Result<Cell, PastEnd> {
-        let cell = self.below.cell(at);
         if self.has(at) {
-            cell.map(|_| Cell::Lost)
+            self.below.cell(at).map(|_| Cell::Lost)
         } else {
-            cell
+            self.below.cell(at)
         }
     }
 

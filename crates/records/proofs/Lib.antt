@@ -4,3 +4,4 @@ pub mod SentenceTests
 pub mod Searches
 pub mod Runs
 pub mod Texts
+pub mod Copies

@@ -1,5 +1,5 @@
 -- Bytes at hand that stand in a recording decide what stands there.
-use Rattle.std.proofs.Common.{◌≡◌, ℕ, zero, suc, ◌+◌, ◌<◌, ◌≤◌, List, [], ◌∷◌, length, get_or, take, drop, Some, None, Option, sym, refl, ap, ◌∙◌, le_of_suc-le-suc, suc-le-suc, not-suc-le-zero, add-zero, arith, take-take}
+use Rattle.std.proofs.Common.{◌≡◌, ℕ, zero, suc, ◌+◌, ◌<◌, ◌≤◌, List, [], ◌∷◌, length, get_or, take, drop, Some, None, Option, sym, refl, ap, ◌∙◌, le_of_suc-le-suc, suc-le-suc, not-suc-le-zero, add-zero, arith, length-take, take-take}
 use Rattle.std.specs.List.{AllByRecursion}
 use Rattle.recording.specs.declared.Cell.{Cell}
 use Rattle.recording.specs.Cells.{cell_at, Stand}
@@ -13,17 +13,21 @@ all_taken zero bs h = tt
 all_taken (suc n) [] h = tt
 all_taken (suc n) (b ∷ bs) h = (h.0, all_taken n bs h.1)
 
--- the first M bytes decide what stands at the front of a run
-pub front_decides : (M : ℕ) (g : Grammar) → Reads M g → (bs : List ℕ) → AllByRecursion (λ b. b < 256) bs → g (take M bs) ≡ g bs
-front_decides M g r bs all = go (g bs) refl (g (take M bs)) refl
+-- bytes at the front decide what stands there, if no longer record does
+pub part_decides : (M : ℕ) (g : Grammar) → Reads M g → (bs : List ℕ) (n : ℕ) → AllByRecursion (λ b. b < 256) bs → ((x : Record) → g bs ≡ Some x → x.length ≤ n) → g (take n bs) ≡ g bs
+part_decides M g r bs n all short = go (g bs) refl (g (take n bs)) refl
   where
-    short : (n : ℕ) → n ≤ M → take n (take M bs) ≡ take n bs
-    short n h = take-take n M bs h
+    within : (x : Record) → g (take n bs) ≡ Some x → x.length ≤ n
+    within x f = omega (arith, (r.inside (take n bs) x (all_taken n bs all) f).2, length-take n bs)
 
-    go : (o : Option Record) → g bs ≡ o → (q : Option Record) → g (take M bs) ≡ q → g (take M bs) ≡ g bs
-    go (Some x) e q f = r.alike bs (take M bs) x e (short x.length (r.inside bs x all e).1) ∙ sym e
+    go : (o : Option Record) → g bs ≡ o → (q : Option Record) → g (take n bs) ≡ q → g (take n bs) ≡ g bs
+    go (Some x) e q f = r.alike bs (take n bs) x e (take-take x.length n bs (short x e)) ∙ sym e
     go None e None f = f ∙ sym e
-    go None e (Some x) f = f ∙ sym (r.alike (take M bs) bs x f (sym (short x.length (r.inside (take M bs) x (all_taken M bs all) f).1)))
+    go None e (Some x) f = f ∙ sym (r.alike (take n bs) bs x f (sym (take-take x.length n bs (within x f))))
+
+-- so the first M bytes do
+pub front_decides : (M : ℕ) (g : Grammar) → Reads M g → (bs : List ℕ) → AllByRecursion (λ b. b < 256) bs → g (take M bs) ≡ g bs
+front_decides M g r bs all = part_decides M g r bs M all (λ x e. (r.inside bs x all e).1)
 
 -- so does a copy of them
 pub copy_decides : (M : ℕ) (g : Grammar) → Reads M g → (cs : List Cell) (p : ℕ) (bs : List ℕ) → bs ≡ take M (bytes_from cs p) → g bs ≡ meaning g cs p

@@ -21,6 +21,11 @@ text_parts (b ∷ bs) = ⊎_elim (λ e. comma (eqb-true b 44 e) e) (λ e. and_ri
     comma : b ≡ 44 → eqb b 44 ≡ true → (all_text (b ∷ bs) && (eqb b 44 && true)) ≡ (eqb b 44 && all_text bs)
     comma is e = (λ j. all_text (is j ∷ bs) && (eqb (is j) 44 && true)) ∙ and_true (all_text bs) ∙ sym (λ j. eqb (is j) 44 && all_text bs)
 
+pub comma_kept : (n : ℕ) (rest : List ℕ) → is_text (take 1 rest) ≡ true → is_text (take 1 (take n rest)) ≡ true
+comma_kept zero rest e = refl
+comma_kept (suc n) [] e = refl
+comma_kept (suc n) (b ∷ bs) e = e
+
 -- with no star among the first m bytes, so many stand before the first
 unstarred : (m : ℕ) (bs : List ℕ) → m ≤ length bs → ((k : ℕ) → k < m → get_or bs k 0 ≡ 42 → ⊥) → m ≤ length (before_star bs)
 unstarred zero bs h none = zero-le
@@ -124,7 +129,7 @@ pub record Headed (bs : List ℕ) : Type 0 where
   pub n4 : name_char (get_or bs 4 0) ≡ true
   pub n5 : name_char (get_or bs 5 0) ≡ true
 
-when_head : (bs : List ℕ) → is_head bs ≡ true → Headed bs
+pub when_head : (bs : List ℕ) → is_head bs ≡ true → Headed bs
 when_head bs e =
     let a = and_parts _ _ e in
     let b = and_parts _ _ a.1 in

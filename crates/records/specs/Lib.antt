@@ -7,3 +7,4 @@ pub mod TupleLaws
 pub mod Sentences
 pub mod SentenceLaws
 pub mod Searching
+pub mod Copying

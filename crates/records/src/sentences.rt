@@ -1,8 +1,9 @@
 // Sentences of NMEA 0183: `$`, five characters, nothing or a comma and a text, `*`, two digits, CR, LF.
-ghost use Rattle.std.specs.Prelude.{◌≡◌, ℕ, ◌<◌, ◌≤◌, ◌&&◌, take};
+ghost use Rattle.std.specs.Prelude.{◌≡◌, ◌<◌, ◌&&◌, true, [], ◌∷◌, take, None, IfNone, IfSome};
 ghost use Rattle.records.specs.Grammars.{bytes_from, meaning};
 ghost use Rattle.records.specs.Sentences.{name_char, text_char, is_text, hex_digit, closing, begins};
 ghost use Rattle.records.specs.Sentences.{tail_of, sentence};
+ghost use Rattle.records.specs.Copying.{may_stand, may_close, Begun, Starred};
 ghost use Rattle.records.specs.SentenceLaws.{sentence_laws};
 
 use crate::bytes::byte;
@@ -58,16 +59,29 @@ fn comma_first(text: &[u8]) -> bool
     text.first().is_none_or(|b| *b == b',')
 }
 
+// A text that a comma may open, and what closes the sentence: the length of the whole sentence.
+fn text_tail(rest: &[u8], name_sum: u8) -> Option<u32>
+    requires { is_text (take 1 rest.now) ≡ true }
+    ensures { result ≡ tail_of name_sum rest.now }
+{
+    let (n, sum) = text_at_front(&rest[..rest.len().min(NEAR)], name_sum);
+    if n > 71 || n >= rest.len() || rest[n] != b'*' {
+        return None;
+    }
+    closes(&rest[n + 1..], sum).then_some(n as u32 + 11)
+}
+
 // What stands after a sentence's five characters, whose sum is given: the length of the whole sentence.
+// Mostly the first byte decides, and no text is read.
 #[inline(never)]
 fn tail_length(rest: &[u8], name_sum: u8) -> Option<u32>
     ensures { result ≡ tail_of name_sum rest.now }
 {
-    let (n, sum) = text_at_front(&rest[..rest.len().min(NEAR)], name_sum);
-    if n > 71 || n >= rest.len() || rest[n] != b'*' || !comma_first(&rest[..n]) {
-        return None;
+    match rest {
+        [b'*', after @ ..] => closes(after, name_sum).then_some(11),
+        _ if comma_first(rest) => text_tail(rest, name_sum),
+        _ => None,
     }
-    closes(&rest[n + 1..], sum).then_some(n as u32 + 11)
 }
 
 // Whether all five may stand in an address.
@@ -78,7 +92,8 @@ fn is_address(a: u8, b: u8, c: u8, d: u8, e: u8) -> bool
 }
 
 // The sentence at the front of the bytes. The tag names the last three of the five characters.
-#[inline(always)]
+// Out of line, so that a place that begins with no `$` costs little.
+#[inline(never)]
 fn front_sentence(bytes: &[u8]) -> Option<Record>
     ensures { result ≡ sentence bytes.now }
 {
@@ -99,39 +114,92 @@ fn front_sentence(bytes: &[u8]) -> Option<Record>
     })
 }
 
-// Copies the bytes from a place on, up to the longest sentence or the next lost cell: how many they are.
-fn front<S: Store>(store: &S, at: u32, bytes: &mut [u8; LONGEST]) -> usize
-    ensures within { result ≤ 82 }
-    ensures front { take result bytes.new ≡ take 82 (bytes_from (S.Store.cells store.now) at) }
+// Whether a byte may stand at a place of a sentence, ahead of its `*`.
+fn may_stand(i: usize, b: u8) -> bool
+    ensures { result ≡ may_stand i b }
 {
-    // a range, since the place in the store counts with the place in the array: a chain would be no plainer
-    for i in 0..LONGEST {
-        let Some(b) = byte(store, at + i as u32) else {
-            return i;
-        };
-        bytes[i] = b;
+    match (i, b) {
+        (0, b'$') | (6, b',') => true,
+        (1..=5, _) => is_name(b),
+        (7.., _) => is_text_char(b),
+        _ => false,
     }
-    LONGEST
 }
 
-// The sentence at a place of which the store has too few bytes at hand.
+// Whether a byte may stand so many places behind the `*`; no digit comes before 0.
+fn may_close(k: usize, b: u8) -> bool
+    ensures { result ≡ may_close k b }
+{
+    match k {
+        0..=2 => b >= b'0',
+        3 => b == b'\r',
+        _ => b == b'\n',
+    }
+}
+
+// The character of an address behind a `$`, if both come first: mostly no more is read of a place.
+fn begun<S: Store>(store: &S, at: u32) -> Option<u8>
+    ensures some { IfSome result (λ b. Begun (bytes_from (S.Store.cells store.now) at) b) }
+    ensures none { IfNone result (sentence (bytes_from (S.Store.cells store.now) at) ≡ None) }
+{
+    if byte(store, at) != Some(b'$') {
+        return None;
+    }
+    let b = byte(store, at + 1)?;
+    is_name(b).then_some(b)
+}
+
+// Copies the bytes behind those two, up to the first `*`: where that stands, if a sentence may begin so.
+// Looks at no cell behind one that rules that out.
+fn front<S: Store>(store: &S, at: u32, b: u8, bytes: &mut [u8; LONGEST]) -> Option<usize>
+    requires begun { Begun (bytes_from (S.Store.cells store.now) at) b }
+    requires copied { take 2 bytes.old ≡ 36 ∷ b ∷ [] }
+    ensures none { IfNone result (sentence (bytes_from (S.Store.cells store.now) at) ≡ None) }
+    ensures some { IfSome result (λ n. Starred (bytes_from (S.Store.cells store.now) at) bytes.new n) }
+{
+    // a range, since the place in the store counts with the place in the array: a chain would be no plainer
+    for i in 2..78 {
+        let b = byte(store, at + i as u32)?;
+        bytes[i] = b;
+        if b == b'*' && i > 5 {
+            return Some(i);
+        }
+        if !may_stand(i, b) {
+            return None;
+        }
+    }
+    None
+}
+
+// The sentence at a `$` and a character of which the store has too few bytes at hand.
 #[cold]
-fn copied_sentence<S: Store>(store: &S, at: u32) -> Option<Record>
+fn copied_sentence<S: Store>(store: &S, at: u32, b: u8) -> Option<Record>
+    requires { Begun (bytes_from (S.Store.cells store.now) at) b }
     ensures { result ≡ meaning sentence (S.Store.cells store.now) at }
 {
     // on the stack, since nothing here allocates
-    let mut bytes = [0u8; LONGEST];
-    let n = front(store, at, &mut bytes);
-    front_sentence(&bytes[..n])
+    let mut bytes = [b'$'; LONGEST];
+    bytes[1] = b;
+    let star = front(store, at, b, &mut bytes)?;
+    // a range, as in `front`
+    for k in 1..5 {
+        let b = byte(store, at + (star + k) as u32)?;
+        if !may_close(k, b) {
+            return None;
+        }
+        bytes[star + k] = b;
+    }
+    front_sentence(&bytes[..star + 5])
 }
 
 // The sentence at a place: told by the bytes that the store has at hand, or by a copy of them.
 fn sentence_at<S: Store>(store: &S, at: u32) -> Option<Record>
     ensures { result ≡ meaning sentence (S.Store.cells store.now) at }
 {
+    let b = begun(store, at)?;
     let run = store.run(at);
     if run.len() < LONGEST {
-        copied_sentence(store, at)
+        copied_sentence(store, at, b)
     } else {
         front_sentence(run)
     }

@@ -1,5 +1,5 @@
 // Answers about fields of bodies.
-use crate::digits::hex_text;
+use crate::digits::{hex_text, push_hex};
 use crate::words::Words;
 use fields::fault::FieldFault;
 use fields::read::{Field, field_place, read_field};
@@ -24,14 +24,13 @@ fn read_line(heap: Global, t: u32, body: &[u8], n: usize) -> Result<String, Allo
 }
 
 fn set_line(heap: Global, set: Result<(), FieldFault>, body: &[u8]) -> Result<String, AllocError> {
-    let body = hex_text(heap, body)?;
-    match set {
-        Ok(()) => format!(in heap; "ok {body}"),
-        Err(fault) => {
-            let refused = refusal_line(heap, &fault)?;
-            format!(in heap; "{refused} {body}")
-        }
-    }
+    let mut text = match set {
+        Ok(()) => String::from_str(heap, "ok")?,
+        Err(fault) => refusal_line(heap, &fault)?,
+    };
+    text.push(' ')?;
+    push_hex(heap, &mut text, body)?;
+    Ok(text)
 }
 
 // A field that is read.

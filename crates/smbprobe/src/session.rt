@@ -1,8 +1,6 @@
 // An open index with its table, and the commands that ask it.
 use crate::answer::{answer_text, rows_text};
-use crate::digits::hex_text;
-use crate::setup::Setup;
-use crate::store::Held;
+use crate::digits::push_hex;
 use crate::words::Words;
 use index::Index;
 use index::scan::row_of;
@@ -17,11 +15,11 @@ const FILL: u8 = 0xee;
 
 // The index owns one store, and `view` is another of the same recording.
 #[derive(Drop)]
-pub struct Session<'a, K: RecordKind + Drop> {
+pub struct Session<S: Store + Drop, K: RecordKind + Drop> {
     heap: Global,
-    view: Held<'a>,
+    view: S,
     kind: K,
-    index: Index<Held<'a>, K>,
+    index: Index<S, K>,
     table: Vec<Row>,
 }
 
@@ -50,13 +48,15 @@ fn read_row(words: &mut Words<'_>) -> Option<Row> {
     })
 }
 
-impl<'a, K: RecordKind + Copy + Drop> Session<'a, K> {
-    pub fn open(heap: Global, setup: &'a Setup, kind: K, table: Vec<Row>) -> Session<'a, K> {
+impl<S: Store + Drop, K: RecordKind + Copy + Drop> Session<S, K> {
+    // Two stores of the same recording.
+    pub fn open(heap: Global, stores: (S, S), kind: K, table: Vec<Row>) -> Session<S, K> {
+        let (view, store) = stores;
         Session {
             heap,
-            view: setup.store(),
+            view,
             kind,
-            index: Index::open(setup.store(), kind),
+            index: Index::open(store, kind),
             table,
         }
     }
@@ -85,12 +85,12 @@ impl<'a, K: RecordKind + Copy + Drop> Session<'a, K> {
     fn call(&mut self, call: Call, length: Option<usize>) -> Result<String, AllocError> {
         let mut buffer = vec![in self.heap; FILL; length.unwrap_or(0)]?;
         let answer = self.index.visit(&mut self.table, &mut buffer, call);
-        let text = answer_text(self.heap, answer)?;
-        if length.is_none() {
-            return Ok(text);
+        let mut text = answer_text(self.heap, answer)?;
+        if length.is_some() {
+            text.push(' ')?;
+            push_hex(self.heap, &mut text, &buffer)?;
         }
-        let after = hex_text(self.heap, &buffer)?;
-        format!(in self.heap; "{text} {after}")
+        Ok(text)
     }
 
     fn state(&self) -> Result<String, AllocError> {

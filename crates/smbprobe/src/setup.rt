@@ -6,13 +6,13 @@ use crate::field::{field_answer, set_answer};
 use crate::file::{counts_answer, row_answer};
 use crate::output::{open_answer, out_answer, put_answer};
 use crate::session::Session;
-use crate::store::{Below, Held};
+use crate::store::Below;
 use crate::words::Words;
 use indexfile::row::Row;
 use recording::extents::{Extent, Extents};
 use recording::plain::Plain;
 use recording::stretches::{Stretch, Stretches};
-use recording::{Cell, Store};
+use recording::{Cell, PastEnd, Store};
 use records::kind::RecordKind;
 use records::sentences::Sentences;
 use records::tuples::Tuples;
@@ -41,6 +41,15 @@ fn done_text(heap: Global, _: ()) -> Result<String, AllocError> {
     String::from_str(heap, "ok")
 }
 
+// A store of which stretches are lost.
+fn stretched<S: Store>(below: S, lost: &[Stretch]) -> Stretches<S> {
+    let mut store = Stretches::new(below);
+    for stretch in lost {
+        let _ = store.mark(*stretch);
+    }
+    store
+}
+
 // Whether a line sets up another recording or opens an index.
 // Asked before `change`, since an open index ends before the recording changes: one match would be no plainer.
 fn sets_up(line: &str) -> bool {
@@ -51,10 +60,10 @@ fn sets_up(line: &str) -> bool {
 }
 
 // Answers with an open index, until a line that sets up: that line, or none at the end of the input.
-fn serve<K: RecordKind + Copy + Drop>(
+fn serve<S: Store + Drop, K: RecordKind + Copy + Drop>(
     console: &mut Console<'_>,
     setup: &Setup,
-    mut session: Session<'_, K>,
+    mut session: Session<S, K>,
 ) -> io::Result<Option<String>> {
     // counted, since no loop of this project may run forever
     for _ in 0..u64::MAX {
@@ -133,23 +142,17 @@ impl Setup {
         String::from_str(heap, "ok").ok()
     }
 
-    // The store of the recording.
-    pub fn store(&self) -> Held<'_> {
-        let mut store = Stretches::new(match &self.rows {
+    // The store of the recording, before stretches are lost, for the commands that ask it once.
+    fn below(&self) -> Below<'_> {
+        match &self.rows {
             None => Below::Bytes(Plain::new(&self.image)),
             Some(rows) => Below::Rows(Extents::new(&self.image, rows)),
-        });
-        if let Some(lost) = &self.lost {
-            for stretch in lost {
-                let _ = store.mark(*stretch);
-            }
         }
-        store
     }
 
     // Marks a stretch, if stretches can be marked.
     fn mark(&mut self, heap: Global, stretch: Stretch) -> Option<String> {
-        let marked = self.store().mark(stretch);
+        let marked = stretched(self.below(), self.lost.as_ref()?).mark(stretch);
         let lost = self.lost.as_mut()?;
         if marked.is_ok() {
             lost.push(stretch).ok()?;
@@ -162,8 +165,8 @@ impl Setup {
         let mut words = Words::of(line);
         match words.word()? {
             "check" => self.check(heap),
-            "length" => self.store().len().to_string(heap).ok(),
-            "cell" => told(heap, self.store().cell(words.parsed()?), cell_text).ok(),
+            "length" => self.below().len().to_string(heap).ok(),
+            "cell" => told(heap, self.cell(words.parsed()?), cell_text).ok(),
             "counts" => counts_answer(heap, &mut words),
             "row" => row_answer(heap, &mut words),
             "field" => field_answer(heap, &mut words),
@@ -173,6 +176,13 @@ impl Setup {
             "judge" => judge_answer(heap, &mut words),
             "parts" => parts_answer(heap, &mut words),
             _ => None,
+        }
+    }
+
+    fn cell(&self, at: u32) -> Result<Cell, PastEnd> {
+        match &self.lost {
+            None => self.below().cell(at),
+            Some(lost) => stretched(self.below(), lost).cell(at),
         }
     }
 
@@ -207,6 +217,27 @@ impl Setup {
         let heap = console.heap();
         let table = vec![in heap; Row::default(); free]?;
         console.print(String::from_str(heap, "ok").ok())?;
-        serve(console, self, Session::open(heap, self, kind, table))
+        let plain = Plain::new(&self.image);
+        // One arm for each store, so that no cell is looked up through a match.
+        match (&self.rows, &self.lost) {
+            (None, None) => {
+                let stores = (plain, plain);
+                serve(console, self, Session::open(heap, stores, kind, table))
+            }
+            (None, Some(lost)) => {
+                let stores = (stretched(plain, lost), stretched(plain, lost));
+                serve(console, self, Session::open(heap, stores, kind, table))
+            }
+            (Some(rows), None) => {
+                let pieces = Extents::new(&self.image, rows);
+                let stores = (pieces, pieces);
+                serve(console, self, Session::open(heap, stores, kind, table))
+            }
+            (Some(rows), Some(lost)) => {
+                let pieces = Extents::new(&self.image, rows);
+                let stores = (stretched(pieces, lost), stretched(pieces, lost));
+                serve(console, self, Session::open(heap, stores, kind, table))
+            }
+        }
     }
 }

@@ -5,18 +5,14 @@ ghost use Rattle.smbprobe.specs.declared.store.Below.TheVariants.{Bytes, Rows};
 
 use recording::extents::Extents;
 use recording::plain::Plain;
-use recording::stretches::Stretches;
 use recording::{Cell, PastEnd, Store};
 
-// What is below the stretches.
+// What is below the stretches, if stretches can be lost.
 #[derive(Clone, Copy)]
 pub enum Below<'a> {
     Bytes(Plain<'a>),
     Rows(Extents<'a, 'a>),
 }
-
-// Every recording is held with stretches; of one that can have none, none is marked.
-pub type Held<'a> = Stretches<Below<'a>>;
 
 // A match in each method: of the two stores one is held.
 impl Store for Below<'_> {

@@ -1,6 +1,6 @@
-use Rattle.std.proofs.Common.{sym}
+use Rattle.std.proofs.Common.{arith}
 use Rattle.recording.proofs.Lists.{length-plain}
 use Rattle.recording.proofs.plain.PlainStore.len.Goals as goal
 
 pub returns : goal.returns
-returns c = sym (length-plain c.args.self.now.bytes.now c.args.self.now.small)
+returns c = omega (arith, c.min.ensures, c.args.self.now.small, length-plain c.args.self.now.bytes.now c.args.self.now.small)

@@ -1,10 +1,10 @@
-use Rattle.std.proofs.Common.{◌≡◌, ℕ, ◌+◌, ◌-◌, Bool, true, false, cond, List, Some, None, length, take, drop, refl, sym, ap, ◌∙◌, arith, length-drop}
+use Rattle.std.proofs.Common.{◌≡◌, ℕ, ◌+◌, ◌-◌, Bool, true, false, cond, List, Some, None, length, take, drop, refl, ap, ◌∙◌, arith, length-drop}
 use Rattle.std.specs.Bool.{then_some}
 use Rattle.std.proofs.lemmas.List.{take_all}
 use Rattle.records.specs.Sentences.{closing, begins}
-use Rattle.records.proofs.SentenceTests.{too_long, endless, starless, commaless, closed}
-use Rattle.records.proofs.sentences.tail_length.Goals.{then-n-gt71-via-then-n-gt71, then-n-gt71-via-else-n-gt71+then-n-rest, then-n-gt71-via-else-n-gt71+else-n-rest+then-rest-n-ne42, then-n-gt71-via-else-n-gt71+else-n-rest+else-rest-n-ne42+then-not-comma_first}
-use Rattle.records.proofs.sentences.tail_length.Goals as goal
+use Rattle.records.proofs.SentenceTests.{too_long, endless, starless, closed, comma_kept}
+use Rattle.records.proofs.sentences.text_tail.Goals.{then-n-gt71-via-then-n-gt71, then-n-gt71-via-else-n-gt71+then-n-rest, then-n-gt71-via-else-n-gt71+else-n-rest+then-rest-n-ne42}
+use Rattle.records.proofs.sentences.text_tail.Goals as goal
 
 by_cond : (b : Bool) (n : ℕ) → then_some b n ≡ cond b (Some n) None
 by_cond true n = refl
@@ -23,8 +23,6 @@ returns-then-n-gt71 c =
       | then-n-gt71-via-then-n-gt71 w ↦ too_long sum c.min.result read.result.0 rest c.min.ensures read.ensures.len (omega arith)
       | then-n-gt71-via-else-n-gt71+then-n-rest w ↦ endless sum c.min.result read.result.0 rest c.min.ensures read.ensures.len (omega arith)
       | then-n-gt71-via-else-n-gt71+else-n-rest+then-rest-n-ne42 w ↦ starless sum c.min.result read.result.0 rest c.min.ensures read.ensures.len (omega arith) (omega arith) w.if-rest-n-ne42.true
-      | then-n-gt71-via-else-n-gt71+else-n-rest+else-rest-n-ne42+then-not-comma_first w ↦
-          commaless sum c.min.result read.result.0 rest c.min.ensures read.ensures.len (omega arith) (omega arith) w.if-rest-n-ne42.false (sym w.comma_first.ensures ∙ w.if-not-comma_first.true)
     ]
 
 pub returns : goal.returns
@@ -34,4 +32,4 @@ returns c =
     let n = read.result.0 in
     c.then_some.ensures ∙ by_cond c.closes.result (n + 11)
     ∙ ap (λ b. cond b (Some (n + 11)) None) (c.closes.ensures ∙ ap (begins (closing read.result.1)) (behind rest n) ∙ ap (λ s. begins (closing s) (drop (n + 1) rest)) read.ensures.sum)
-    ∙ closed c.args.name_sum c.min.result n rest c.min.ensures read.ensures.len (omega arith) (omega arith) c.if-rest-n-ne42.false (sym c.comma_first.ensures ∙ c.if-not-comma_first.false)
+    ∙ closed c.args.name_sum c.min.result n rest c.min.ensures read.ensures.len (omega arith) (omega arith) c.if-rest-n-ne42.false (comma_kept n rest c.requires)
